@@ -1,0 +1,7 @@
+use Rattle.bits.proofs.BitsLaws.{bit-bound}
+use borrow.Author.Needs.{needs}
+use Rattle.bits.proofs.bit.Statement.{statement}
+use Rattle.bits.proofs.bit.Tie as tie
+
+pub bit-spec : {M : Type 1} → statement M
+bit-spec = tie.close (tie.spec (λ c. search needs) (λ c. search bit-bound))

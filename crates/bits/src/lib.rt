@@ -1,0 +1,110 @@
+// lib.rt - numbers of 8, 16 and 32 bits: cut to a size, sign, differences, parts replaced. Knows no 68000.
+// Means: specs/Bits.antt.  Laws: proofs/BitsLaws.antt.
+// Uses: nothing.  Source: [003 1.4], [ours].
+ghost use mathlib.Core.Path.{_≡_};
+ghost use Prim.Native.Nat.{ℕ, _+_, _*_, _%_, _/_, _<_, _≤_};
+ghost use Rattle.bits.specs.Bits.{bit, modulus, half, low, minus, joined, sign-byte, sign-word, sign-extended};
+
+// A byte as a wider number.
+pub fn wide(x: u8) -> u32
+    ensures { λ r. ⌜ (r ≡ x) × (r < 256) ⌝ }
+{
+    x as u32
+}
+
+pub fn bit(b: bool) -> u32
+    ensures { λ r. ⌜ (r ≡ bit b) × (r ≤ 1) ⌝ }
+{
+    b as u32
+}
+
+// How many values a size has: z is 0 for a byte, 1 for a word, else a long.
+pub fn modulus_of(z: u32) -> u64
+    ensures { λ r. ⌜ (r ≡ modulus z) × (0 < modulus z) × (modulus z ≤ 4294967296) ⌝ }
+{
+    let byte = z == 0;
+    let word = z == 1;
+    if byte {
+        return 256;
+    }
+    if word {
+        return 65536;
+    }
+    4294967296
+}
+
+pub fn half_of(z: u32) -> u32
+    ensures { λ r. ⌜ r ≡ half z ⌝ }
+{
+    let byte = z == 0;
+    let word = z == 1;
+    if byte {
+        return 128;
+    }
+    if word {
+        return 32768;
+    }
+    2147483648
+}
+
+// The low byte, word or long.
+pub fn cut(x: u64, z: u32) -> u32
+    ensures { λ r. ⌜ (r ≡ low x z) × (r < modulus z) ⌝ }
+{
+    let byte = z == 0;
+    let word = z == 1;
+    if byte {
+        return (x % 256) as u32;
+    }
+    if word {
+        return (x % 65536) as u32;
+    }
+    (x % 4294967296) as u32
+}
+
+// A difference of 32 bits.
+pub fn minus(a: u32, b: u32) -> u32
+    ensures { λ r. ⌜ r ≡ minus a b ⌝ }
+{
+    ((a as u64 + 4294967296 - b as u64) % 4294967296) as u32
+}
+
+// The low part a of a number x replaced by b.
+pub fn joined(x: u32, a: u32, b: u32) -> u32
+    ensures { λ r. ⌜ r ≡ joined x a b ⌝ }
+{
+    ((x as u64 + 4294967296 - a as u64 + b as u64) % 4294967296) as u32
+}
+
+// The low byte, its sign carried on to 32 bits.
+pub fn sign_byte(x: u32) -> u32
+    ensures { λ r. ⌜ r ≡ sign-byte x ⌝ }
+{
+    let b = x % 256;
+    let neg = 128 <= b;
+    b + bit(neg) * 4294967040
+}
+
+// The low word, its sign carried on to 32 bits.
+pub fn sign_word(x: u32) -> u32
+    ensures { λ r. ⌜ r ≡ sign-word x ⌝ }
+{
+    let w = x % 65536;
+    let neg = 32768 <= w;
+    w + bit(neg) * 4294901760
+}
+
+// A byte or word carried on to 32 bits; a long as it is.
+pub fn sign_extended(x: u32, z: u32) -> u32
+    ensures { λ r. ⌜ r ≡ sign-extended x z ⌝ }
+{
+    let byte = z == 0;
+    let word = z == 1;
+    if byte {
+        return sign_byte(x);
+    }
+    if word {
+        return sign_word(x);
+    }
+    x
+}
