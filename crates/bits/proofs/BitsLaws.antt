@@ -1,11 +1,13 @@
 -- BitsLaws.antt - laws of specs/Bits.antt: what a choice by size is at each size; a bit is at most 1; a counted loop is `iter`.
--- by-size-byte, -word, -long; modulus-known; low-known; bit-bound; sign-byte-is, sign-word-is; turns-start, turns-again, turns-end.
+-- by-size-byte, -word, -long; modulus-known; low-known; bit-bound; sign-byte-is, sign-word-is; turns-start, turns-again, turns-end; case-at, case-past.
 -- Uses: nothing above the library.
 use Prim.Native.Nat.{ℕ, zero, suc, _+_, _*_, _%_, _^_, _<_, _≤_, _/_, _-_}
 use native.Mathlib.Omega.{arith}
 use mathlib.Core.Path.{_≡_, refl, sym, ap, _∙_}
 use mathlib.Core.Bool.{Bool, true, false}
 use lib.Dec.{ltb, leb, eqb}
+use lib.ListN.{getD, length, List·getD-eq-default}
+use mathlib.Core.List.{List}
 use Rattle.bits.specs.Bits.{bit, iter, by-size, modulus, low, sign-byte, sign-word}
 
 pub bit-bound : (b : Bool) → bit b ≤ 1
@@ -65,3 +67,24 @@ module _ {A : Type 0} (f : A → A) (n : ℕ) where
     pub turns-end : n ≤ k → a ≡ iter f n a₀
     unfolding iter
     turns-end h = let z : n - k ≡ 0 = omega arith in rw z at (i .rest)
+
+-- a number that is n or more and not n is n + 1 or more
+past : (n j : ℕ) → n ≤ j → (j ≡ n → ⊥) → suc n ≤ j
+past n j h e = omega arith
+
+-- j is none of those below n: what the `_` of a `match` on j knows
+abbrev pub None-below : ℕ → ℕ → Type 0
+None-below zero j = Unit
+None-below (suc n) j = None-below n j × (j ≡ n → ⊥)
+
+none-below-past : (n j : ℕ) → None-below n j → n ≤ j
+none-below-past zero j h = omega arith
+none-below-past (suc n) j h = past n j (none-below-past n j (h .0)) (h .1)
+
+-- a choice by number from a list, the last resort past its end: what one arm of a `match` gives, and what its `_` gives
+module _ {A : Type 0} (xs : List A) (d r : A) (j : ℕ) where
+  pub case-at : (i : ℕ) → j ≡ i → r ≡ getD xs i d → r ≡ getD xs j d
+  case-at i e h = cc
+
+  pub case-past : None-below (length xs) j → r ≡ d → r ≡ getD xs j d
+  case-past h e = e ∙ sym (List·getD-eq-default xs d (none-below-past (length xs) j h))
