@@ -1,0 +1,101 @@
+-- Bus.antt - what an access to lent memory gives: a value, or the fault that the instruction then carries; and what a put leaves.
+-- Not modelled: bus cycles, prefetch. The instruction layers read memory only through a `View`; the window of K7 and the ROM of K10
+-- will change how a view is made and nothing above. Laws: proofs/BusLaws.antt.  Source: [003 2.2], [003 4.2], [01 step 6], [01 step 7].
+use Prim.Native.Nat.{ℕ, _+_, _*_, _%_, _/_}
+use mathlib.Core.Bool.{Bool}
+use mathlib.Core.List.{List}
+use lib.ListN.{length, getD, set}
+use lib.Dec.{ltb, eqb}
+use Rattle.bits.specs.Bits.{pick, plus, by-size}
+use Rattle.bus.specs.declared.Flow.{Flow}
+use Rattle.bus.specs.declared.Fetched.{Fetched}
+
+-- the 24 bits of an address that leave the chip  [01 What the box emulates, Memory]
+abbrev pub pins : ℕ → ℕ
+pins a = a % 16777216
+
+-- what a program can see of memory: which bytes and words it may touch, and what they hold (0 elsewhere)  [ours]
+pub record View : Type 0 where
+  pub byte-ok : ℕ → Bool
+  pub word-ok : ℕ → Bool
+  pub byte : ℕ → ℕ
+  pub word : ℕ → ℕ
+
+-- all of a lent memory, high byte first  [01 What the box emulates, Memory]
+unfoldable pub view-of : List ℕ → View
+view-of m = record {
+  byte-ok = λ a. ltb a (length m);
+  word-ok = λ a. ltb (a + 1) (length m);
+  byte = λ a. pick (ltb a (length m)) (getD m a 0) 0;
+  word = λ a. pick (ltb (a + 1) (length m)) (getD m a 0 * 256 + getD m (a + 1) 0) 0;
+}
+
+-- a fault in one number: the address times 256, the information word times 4, the vector. k is the information word in user state:
+-- 17 data read, 18 program read, 1 data write; the supervisor's function codes are 4 more  [01 step 7]
+abbrev pub failed : Flow → ℕ → ℕ → ℕ → Flow
+failed f v p k = record { pc = f .pc; sr = f .sr; bad = p % 16777216 * 256 + (k % 32 + f .sr / 8192 % 2 * 4) * 4 + v % 4 }
+
+-- the flow with another PC, with another SR  [ours]
+abbrev pub moved : Flow → ℕ → Flow
+moved f p = record { pc = p; sr = f .sr; bad = f .bad }
+
+abbrev pub with-sr : Flow → ℕ → Flow
+with-sr f sr = record { pc = f .pc; sr = sr; bad = f .bad }
+
+-- after a fault nothing more is read: the first one stays  [01 step 7]
+abbrev pub unless-failed : Flow → Fetched → Fetched
+unless-failed f w = pick (eqb (f .bad) 0) w (record { v = 0; f = f })
+
+-- a byte outside memory is a bus error  [01 step 6]
+unfoldable pub read-byte : View → ℕ → ℕ → Flow → Fetched
+read-byte v a k f =
+    unless-failed f
+    (pick (v .byte-ok (pins a)) (record { v = v .byte (pins a); f = f }) (record { v = 0; f = failed f 2 (pins a) k }))
+
+-- a word at an odd address is an address error, one outside memory a bus error; odd is asked first  [01 step 6]
+unfoldable pub read-word : View → ℕ → ℕ → Flow → Fetched
+read-word v a k f =
+    unless-failed f
+    (pick (eqb (pins a % 2) 1)
+    (record { v = 0; f = failed f 3 (pins a) k })
+    (pick (v .word-ok (pins a))
+    (record { v = v .word (pins a); f = f })
+    (record { v = 0; f = failed f 2 (pins a) k })))
+
+-- a long is two words, the upper first  [01 step 6]
+unfoldable pub read-long : View → ℕ → ℕ → Flow → Fetched
+read-long v a k f =
+    let h = read-word v a k f in
+    let l = read-word v (plus a 2) k (h .f) in
+    record { v = h .v * 65536 + l .v; f = l .f }
+
+unfoldable pub read-sized : View → ℕ → ℕ → ℕ → Flow → Fetched
+read-sized v a z k f = by-size z (read-byte v a k f) (read-word v a k f) (read-long v a k f)
+
+-- room for a write: the same tests, and the fault is a write's  [01 step 6] [01 step 7]
+unfoldable pub room : View → ℕ → ℕ → Flow → Flow
+room v a z f = read-sized v a z 1 f .f
+
+-- the next word of the instruction: a program read  [01 step 7]
+unfoldable pub next-word : View → Flow → Fetched
+next-word v f = let w = read-word v (f .pc) 18 f in record { v = w .v; f = moved (w .f) (plus (f .pc) 2) }
+
+unfoldable pub next-long : View → Flow → Fetched
+next-long v f =
+    let h = next-word v f in
+    let l = next-word v (h .f) in
+    record { v = h .v * 65536 + l .v; f = l .f }
+
+-- outside memory nothing is put  [ours]
+abbrev pub put-byte : List ℕ → ℕ → ℕ → List ℕ
+put-byte m a v = set m (pins a) (v % 256)
+
+-- high byte first  [01 What the box emulates, Memory]
+unfoldable pub put-word : List ℕ → ℕ → ℕ → List ℕ
+put-word m a v = put-byte (put-byte m a (v / 256)) (plus a 1) v
+
+unfoldable pub put-long : List ℕ → ℕ → ℕ → List ℕ
+put-long m a v = put-word (put-word m a (v / 65536)) (plus a 2) v
+
+unfoldable pub put-sized : List ℕ → ℕ → ℕ → ℕ → List ℕ
+put-sized m a z v = by-size z (put-byte m a v) (put-word m a v) (put-long m a v)

@@ -1,0 +1,211 @@
+// lib.rt - lent memory of any length: reads with their faults, room for a write, puts, and the words of an instruction in turn.
+// Means: specs/Bus.antt.  Laws: proofs/BusLaws.antt.
+// Uses: bits.  Source: [003 2.2], [003 4.2], [01 What the box emulates], [01 step 6], [01 step 7].
+ghost use mathlib.Core.Path.{_≡_};
+ghost use Prim.Native.Nat.{ℕ, _+_, _*_, _%_, _/_, _<_, _≤_};
+ghost use lib.ListN.{set};
+ghost use Rattle.bus.specs.Bus.{view-of, failed, moved, with-sr, read-byte, read-word, read-long, read-sized, room, next-word, next-long, put-byte, put-word, put-long, put-sized};
+
+// Where an instruction stands: the next word's address, the status register, and the fault so far, 0 if none: the 24-bit address
+// of the access times 256, the information word times 4, and the vector, 2 or 3.
+pub struct Flow {
+    pub pc: u32,
+    pub sr: u32,
+    pub bad: u32,
+}
+
+// A number that was read (0 after a fault), and where the instruction then stands.
+pub struct Fetched {
+    pub v: u32,
+    pub f: Flow,
+}
+
+// A fault: k is 17 for a data read, 18 for a program read, 1 for a data write; the supervisor's function codes are 4 more.
+pub fn failed(f: Flow, vec: u32, at: u32, k: u32) -> Flow
+    ensures { λ r. ⌜ r ≡ failed f vec at k ⌝ }
+{
+    Flow {
+        pc: f.pc,
+        sr: f.sr,
+        bad: at % 16777216 * 256 + (k % 32 + f.sr / 8192 % 2 * 4) * 4 + vec % 4,
+    }
+}
+
+pub fn moved(f: Flow, pc: u32) -> Flow
+    ensures { λ r. ⌜ r ≡ moved f pc ⌝ }
+{
+    Flow {
+        pc,
+        sr: f.sr,
+        bad: f.bad,
+    }
+}
+
+pub fn with_sr(f: Flow, sr: u32) -> Flow
+    ensures { λ r. ⌜ r ≡ with-sr f sr ⌝ }
+{
+    Flow {
+        pc: f.pc,
+        sr,
+        bad: f.bad,
+    }
+}
+
+pub fn read_byte(mem: &[u8], a: u32, k: u32, f: Flow) -> Fetched
+    ensures { λ r. ⌜ r ≡ read-byte (view-of (now (mem .entry))) a k f ⌝ }
+    ensures { λ r. ⌜ r .v < 256 ⌝ }
+{
+    let p = a % 16777216;
+    let i = p as usize;
+    let clean = f.bad == 0;
+    if clean {
+        let inside = i < mem.len();
+        if inside {
+            Fetched {
+                v: bits::wide(mem[i]),
+                f,
+            }
+        } else {
+            Fetched {
+                v: 0,
+                f: failed(f, 2, p, k),
+            }
+        }
+    } else {
+        Fetched { v: 0, f }
+    }
+}
+
+// Odd is asked before outside.
+pub fn read_word(mem: &[u8], a: u32, k: u32, f: Flow) -> Fetched
+    ensures { λ r. ⌜ r ≡ read-word (view-of (now (mem .entry))) a k f ⌝ }
+    ensures { λ r. ⌜ r .v < 65536 ⌝ }
+{
+    let p = a % 16777216;
+    let i = p as usize;
+    let clean = f.bad == 0;
+    let odd = p % 2 == 1;
+    if clean {
+        if odd {
+            return Fetched {
+                v: 0,
+                f: failed(f, 3, p, k),
+            };
+        }
+        let inside = i + 1 < mem.len();
+        if inside {
+            Fetched {
+                v: bits::wide(mem[i]) * 256 + bits::wide(mem[i + 1]),
+                f,
+            }
+        } else {
+            Fetched {
+                v: 0,
+                f: failed(f, 2, p, k),
+            }
+        }
+    } else {
+        Fetched { v: 0, f }
+    }
+}
+
+// Two words, the upper first.
+pub fn read_long(mem: &[u8], a: u32, k: u32, f: Flow) -> Fetched
+    ensures { λ r. ⌜ r ≡ read-long (view-of (now (mem .entry))) a k f ⌝ }
+{
+    let h = read_word(mem, a, k, f);
+    let hf = h.f;
+    let l = read_word(mem, std::num::wrapping_add_u32(a, 2), k, hf);
+    let lf = l.f;
+    Fetched {
+        v: h.v * 65536 + l.v,
+        f: lf,
+    }
+}
+
+pub fn read_sized(mem: &[u8], a: u32, z: u32, k: u32, f: Flow) -> Fetched
+    ensures { λ r. ⌜ r ≡ read-sized (view-of (now (mem .entry))) a z k f ⌝ }
+{
+    let byte = z == 0;
+    let word = z == 1;
+    if byte {
+        return read_byte(mem, a, k, f);
+    }
+    if word {
+        return read_word(mem, a, k, f);
+    }
+    read_long(mem, a, k, f)
+}
+
+// Whether that many bytes can be written there, as the fault that the flow then carries.
+pub fn room(mem: &[u8], a: u32, z: u32, f: Flow) -> Flow
+    ensures { λ r. ⌜ r ≡ room (view-of (now (mem .entry))) a z f ⌝ }
+{
+    let w = read_sized(mem, a, z, 1, f);
+    w.f
+}
+
+// The next word of the instruction.
+pub fn next_word(mem: &[u8], f: Flow) -> Fetched
+    ensures { λ r. ⌜ r ≡ next-word (view-of (now (mem .entry))) f ⌝ }
+    ensures { λ r. ⌜ r .v < 65536 ⌝ }
+{
+    let pc = f.pc;
+    let w = read_word(mem, pc, 18, f);
+    let g = w.f;
+    let h = moved(g, std::num::wrapping_add_u32(pc, 2));
+    Fetched { v: w.v, f: h }
+}
+
+pub fn next_long(mem: &[u8], f: Flow) -> Fetched
+    ensures { λ r. ⌜ r ≡ next-long (view-of (now (mem .entry))) f ⌝ }
+{
+    let h = next_word(mem, f);
+    let hf = h.f;
+    let l = next_word(mem, hf);
+    let lf = l.f;
+    Fetched {
+        v: h.v * 65536 + l.v,
+        f: lf,
+    }
+}
+
+// A byte is put where the address lies in memory; elsewhere nothing is.
+pub fn put_byte(mem: &mut [u8], a: u32, v: u32)
+    ensures { λ _. ⌜ now (mem .exit) ≡ put-byte (now (mem .entry)) a v ⌝ }
+{
+    let i = (a % 16777216) as usize;
+    if i < mem.len() {
+        mem[i] = (v % 256) as u8;
+    }
+}
+
+pub fn put_word(mem: &mut [u8], a: u32, v: u32)
+    ensures { λ _. ⌜ now (mem .exit) ≡ put-word (now (mem .entry)) a v ⌝ }
+{
+    put_byte(mem, a, v / 256);
+    put_byte(mem, std::num::wrapping_add_u32(a, 1), v);
+}
+
+pub fn put_long(mem: &mut [u8], a: u32, v: u32)
+    ensures { λ _. ⌜ now (mem .exit) ≡ put-long (now (mem .entry)) a v ⌝ }
+{
+    put_word(mem, a, v / 65536);
+    put_word(mem, std::num::wrapping_add_u32(a, 2), v);
+}
+
+pub fn put_sized(mem: &mut [u8], a: u32, z: u32, v: u32)
+    ensures { λ _. ⌜ now (mem .exit) ≡ put-sized (now (mem .entry)) a z v ⌝ }
+{
+    let byte = z == 0;
+    let word = z == 1;
+    if byte {
+        put_byte(mem, a, v);
+        return;
+    }
+    if word {
+        put_word(mem, a, v);
+        return;
+    }
+    put_long(mem, a, v);
+}
