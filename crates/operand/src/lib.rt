@@ -1,0 +1,328 @@
+// lib.rt - the register bank and the twelve addressing modes at three sizes, with their register steps and extension words.
+// Means: specs/Operands.antt.  Laws: proofs/OperandLaws.antt.
+// Uses: bits, bus.  Source: [003 2], [01 Operands], [01 step 7].
+ghost use mathlib.Core.Path.{_≡_};
+ghost use Prim.Native.Nat.{ℕ, _+_, _*_, _%_, _/_, _<_, _≤_};
+ghost use lib.ListN.{getD, set};
+ghost use Rattle.bus.specs.Bus.{view-of};
+ghost use Rattle.operand.specs.Operands.{get, put, step-of, in-register, in-memory, number, indirect, postincrement, predecrement, displaced, index-value, with-index, indexed, absolute-word, absolute-long, pc-displaced, pc-indexed, immediate, special, locate, load, put-low, with-flow, source, target, modify};
+use bus::Fetched;
+use bus::Flow;
+
+// Where an operand lies: kind 0 is the register `at`, 1 memory at `at` (read as `k`: 17 data, 18 program), else the number `at`
+// itself. `reg` takes the value `step`, if it is a register. `f` is where the instruction stands then.
+pub struct Operand {
+    pub kind: u32,
+    pub at: u32,
+    pub k: u32,
+    pub reg: u32,
+    pub step: u32,
+    pub f: Flow,
+}
+
+// An operand that is read and will be written: its value, and its place with the flow after the read.
+pub struct Both {
+    pub v: u32,
+    pub q: Operand,
+}
+
+// A register's value, 0 where there is none: 0 to 7 are D0 to D7, 8 to 15 A0 to A7 (the active one), 16 USP in supervisor state.
+pub fn get(r: &[u32; 17], i: u32) -> u32
+    ensures { λ q. ⌜ q ≡ get (now (r .entry)) i ⌝ }
+{
+    let k = i as usize;
+    let there = i < 17;
+    if there { r[k] } else { 0 }
+}
+
+pub fn put(r: &mut [u32; 17], i: u32, v: u32)
+    ensures { λ _. ⌜ now (r .exit) ≡ put (now (r .entry)) i v ⌝ }
+{
+    let k = i as usize;
+    let there = i < 17;
+    if there {
+        r[k] = v;
+        return;
+    }
+}
+
+// By how much (An)+ and -(An) step: a byte of A7 by 2.
+pub fn step_of(n: u32, z: u32) -> u32
+    ensures { λ q. ⌜ q ≡ step-of n z ⌝ }
+{
+    let byte = z == 0;
+    let word = z == 1;
+    let seven = n == 7;
+    if byte {
+        return 1 + bits::bit(seven);
+    }
+    if word {
+        return 2;
+    }
+    4
+}
+
+fn in_register(i: u32, f: Flow) -> Operand
+    ensures { λ q. ⌜ q ≡ in-register i f ⌝ }
+{
+    Operand {
+        kind: 0,
+        at: i,
+        k: 0,
+        reg: 17,
+        step: 0,
+        f,
+    }
+}
+
+fn in_memory(a: u32, k: u32, reg: u32, step: u32, f: Flow) -> Operand
+    ensures { λ q. ⌜ q ≡ in-memory a k reg step f ⌝ }
+{
+    Operand {
+        kind: 1,
+        at: a,
+        k,
+        reg,
+        step,
+        f,
+    }
+}
+
+fn number(v: u32, f: Flow) -> Operand
+    ensures { λ q. ⌜ q ≡ number v f ⌝ }
+{
+    Operand {
+        kind: 2,
+        at: v,
+        k: 0,
+        reg: 17,
+        step: 0,
+        f,
+    }
+}
+
+fn indirect(r: &[u32; 17], n: u32, f: Flow) -> Operand
+    ensures { λ q. ⌜ q ≡ indirect (now (r .entry)) n f ⌝ }
+{
+    let a = get(r, 8 + n % 8);
+    in_memory(a, 17, 17, 0, f)
+}
+
+fn postincrement(r: &[u32; 17], n: u32, z: u32, f: Flow) -> Operand
+    ensures { λ q. ⌜ q ≡ postincrement (now (r .entry)) n z f ⌝ }
+{
+    let a = get(r, 8 + n % 8);
+    in_memory(
+        a,
+        17,
+        8 + n % 8,
+        std::num::wrapping_add_u32(a, step_of(n, z)),
+        f,
+    )
+}
+
+fn predecrement(r: &[u32; 17], n: u32, z: u32, f: Flow) -> Operand
+    ensures { λ q. ⌜ q ≡ predecrement (now (r .entry)) n z f ⌝ }
+{
+    let a = bits::minus(get(r, 8 + n % 8), step_of(n, z));
+    in_memory(a, 17, 8 + n % 8, a, f)
+}
+
+fn displaced(r: &[u32; 17], mem: &[u8], n: u32, f: Flow) -> Operand
+    ensures { λ q. ⌜ q ≡ displaced (now (r .entry)) (view-of (now (mem .entry))) n f ⌝ }
+{
+    let w = bus::next_word(mem, f);
+    let g = w.f;
+    let a = std::num::wrapping_add_u32(get(r, 8 + n % 8), bits::sign_word(w.v));
+    in_memory(a, 17, 17, 0, g)
+}
+
+// The index register of an extension word: a word carried on to 32 bits, or a long.
+fn index_value(r: &[u32; 17], w: u32) -> u32
+    ensures { λ q. ⌜ q ≡ index-value (now (r .entry)) w ⌝ }
+{
+    let x = get(r, w / 4096 % 16);
+    let long = w / 2048 % 2 == 1;
+    if long {
+        return x;
+    }
+    bits::sign_word(x)
+}
+
+// A base with the byte and the index register of an extension word.
+fn with_index(r: &[u32; 17], base: u32, w: u32) -> u32
+    ensures { λ q. ⌜ q ≡ with-index (now (r .entry)) base w ⌝ }
+{
+    let x = index_value(r, w);
+    std::num::wrapping_add_u32(std::num::wrapping_add_u32(base, bits::sign_byte(w)), x)
+}
+
+fn indexed(r: &[u32; 17], mem: &[u8], n: u32, f: Flow) -> Operand
+    ensures { λ q. ⌜ q ≡ indexed (now (r .entry)) (view-of (now (mem .entry))) n f ⌝ }
+{
+    let w = bus::next_word(mem, f);
+    let g = w.f;
+    let a = with_index(r, get(r, 8 + n % 8), w.v);
+    in_memory(a, 17, 17, 0, g)
+}
+
+fn absolute_word(mem: &[u8], f: Flow) -> Operand
+    ensures { λ q. ⌜ q ≡ absolute-word (view-of (now (mem .entry))) f ⌝ }
+{
+    let w = bus::next_word(mem, f);
+    let g = w.f;
+    in_memory(bits::sign_word(w.v), 17, 17, 0, g)
+}
+
+fn absolute_long(mem: &[u8], f: Flow) -> Operand
+    ensures { λ q. ⌜ q ≡ absolute-long (view-of (now (mem .entry))) f ⌝ }
+{
+    let w = bus::next_long(mem, f);
+    let g = w.f;
+    in_memory(w.v, 17, 17, 0, g)
+}
+
+fn pc_displaced(mem: &[u8], f: Flow) -> Operand
+    ensures { λ q. ⌜ q ≡ pc-displaced (view-of (now (mem .entry))) f ⌝ }
+{
+    let pc = f.pc;
+    let w = bus::next_word(mem, f);
+    let g = w.f;
+    in_memory(
+        std::num::wrapping_add_u32(pc, bits::sign_word(w.v)),
+        18,
+        17,
+        0,
+        g,
+    )
+}
+
+fn pc_indexed(r: &[u32; 17], mem: &[u8], f: Flow) -> Operand
+    ensures { λ q. ⌜ q ≡ pc-indexed (now (r .entry)) (view-of (now (mem .entry))) f ⌝ }
+{
+    let pc = f.pc;
+    let w = bus::next_word(mem, f);
+    let g = w.f;
+    in_memory(with_index(r, pc, w.v), 18, 17, 0, g)
+}
+
+pub fn immediate(mem: &[u8], z: u32, f: Flow) -> Operand
+    ensures { λ q. ⌜ q ≡ immediate (view-of (now (mem .entry))) z f ⌝ }
+{
+    let long = 2 <= z;
+    if long {
+        let w = bus::next_long(mem, f);
+        let g = w.f;
+        return number(w.v, g);
+    }
+    let w = bus::next_word(mem, f);
+    let g = w.f;
+    number(w.v, g)
+}
+
+// Mode 7, by its register number.
+fn special(r: &[u32; 17], mem: &[u8], n: u32, z: u32, f: Flow) -> Operand
+    ensures { λ q. ⌜ q ≡ special (now (r .entry)) (view-of (now (mem .entry))) n z f ⌝ }
+{
+    match n {
+        0 => absolute_word(mem, f),
+        1 => absolute_long(mem, f),
+        2 => pc_displaced(mem, f),
+        3 => pc_indexed(r, mem, f),
+        _ => immediate(mem, z, f),
+    }
+}
+
+// The place of the operand of a mode and a register number. No register is stepped yet.
+pub fn locate(r: &[u32; 17], mem: &[u8], mode: u32, n: u32, z: u32, f: Flow) -> Operand
+    ensures { λ q. ⌜ q ≡ locate (now (r .entry)) (view-of (now (mem .entry))) mode n z f ⌝ }
+{
+    match mode {
+        0 => in_register(n, f),
+        1 => in_register(8 + n % 8, f),
+        2 => indirect(r, n, f),
+        3 => postincrement(r, n, z, f),
+        4 => predecrement(r, n, z, f),
+        5 => displaced(r, mem, n, f),
+        6 => indexed(r, mem, n, f),
+        _ => special(r, mem, n, z, f),
+    }
+}
+
+// What an operand holds, cut to its size.
+pub fn load(r: &[u32; 17], mem: &[u8], p: Operand, z: u32, f: Flow) -> Fetched
+    ensures { λ q. ⌜ q ≡ load (now (r .entry)) (view-of (now (mem .entry))) p z f ⌝ }
+{
+    let kind = p.kind;
+    let at = p.at;
+    match kind {
+        0 => Fetched {
+            v: bits::cut(get(r, at) as u64, z),
+            f,
+        },
+        1 => bus::read_sized(mem, at, z, p.k, f),
+        _ => Fetched {
+            v: bits::cut(at as u64, z),
+            f,
+        },
+    }
+}
+
+// The low byte, word or long of a register.
+pub fn put_low(r: &mut [u32; 17], i: u32, z: u32, v: u32)
+    ensures { λ _. ⌜ now (r .exit) ≡ put-low (now (r .entry)) i z v ⌝ }
+{
+    let old = get(r, i);
+    let a = bits::cut(old as u64, z);
+    let b = bits::cut(v as u64, z);
+    put(r, i, bits::joined(old, a, b));
+}
+
+fn with_flow(q: Operand, f: Flow) -> Operand
+    ensures { λ o. ⌜ o ≡ with-flow q f ⌝ }
+{
+    Operand {
+        kind: q.kind,
+        at: q.at,
+        k: q.k,
+        reg: q.reg,
+        step: q.step,
+        f,
+    }
+}
+
+// The operand's value, with its register stepped.
+pub fn source(r: &mut [u32; 17], mem: &[u8], mode: u32, n: u32, z: u32, f: Flow) -> Fetched
+    ensures { λ w. ⌜ w ≡ source (now (r .entry)) (view-of (now (mem .entry))) mode n z f .w ⌝ }
+    ensures { λ w. ⌜ now (r .exit) ≡ source (now (r .entry)) (view-of (now (mem .entry))) mode n z f .r ⌝ }
+{
+    let p = locate(r, mem, mode, n, z, f);
+    let g = p.f;
+    let w = load(r, mem, p, z, g);
+    put(r, p.reg, p.step);
+    w
+}
+
+// The operand's place, with its register stepped.
+pub fn target(r: &mut [u32; 17], mem: &[u8], mode: u32, n: u32, z: u32, f: Flow) -> Operand
+    ensures { λ q. ⌜ q ≡ target (now (r .entry)) (view-of (now (mem .entry))) mode n z f .q ⌝ }
+    ensures { λ q. ⌜ now (r .exit) ≡ target (now (r .entry)) (view-of (now (mem .entry))) mode n z f .r ⌝ }
+{
+    let p = locate(r, mem, mode, n, z, f);
+    put(r, p.reg, p.step);
+    p
+}
+
+// The operand's value and place, with its register stepped.
+pub fn modify(r: &mut [u32; 17], mem: &[u8], mode: u32, n: u32, z: u32, f: Flow) -> Both
+    ensures { λ b. ⌜ b ≡ modify (now (r .entry)) (view-of (now (mem .entry))) mode n z f .b ⌝ }
+    ensures { λ b. ⌜ now (r .exit) ≡ modify (now (r .entry)) (view-of (now (mem .entry))) mode n z f .r ⌝ }
+{
+    let p = locate(r, mem, mode, n, z, f);
+    let g = p.f;
+    let w = load(r, mem, p, z, g);
+    put(r, p.reg, p.step);
+    let h = w.f;
+    let q = with_flow(p, h);
+    Both { v: w.v, q }
+}
