@@ -7,7 +7,7 @@ use native.Mathlib.Nat.{one-mul}
 use mathlib.Core.Path.{_≡_, refl, sym, ap, _∙_}
 use mathlib.Core.Bool.{Bool, true, false, _&&_, _||_, not}
 use lib.Dec.{ltb, leb, eqb}
-use lib.Bits.{bitAnd, bitOr}
+use lib.Bits.{bitAnd}
 use lib.Pow.{shl-exact}
 use Rattle.bits.specs.Bits.{pick, bit, modulus, half, low}
 use Rattle.flags.specs.declared.Flagged.{Flagged}
@@ -79,9 +79,9 @@ module _ (v n k old z w y r c : ℕ) (bx bn bv bc : Bool) (e1 : w ≡ 2 ^ bit-nu
   unfolding bit-operation
   bit-operation-is e4 e5 e6 e7 e8 = cc
 
-pub tas-is : (v old r : ℕ) (p : Flagged) → p ≡ moved v old 0 → r ≡ low (bitOr v 128) 0 → record { v = r; c = p .c } ≡ tas v old
+pub tas-is : (v old : ℕ) (p q : Flagged) → p ≡ moved v old 0 → q ≡ bit-operation v 7 3 old 0 → record { v = q .v; c = p .c } ≡ tas v old
 unfolding tas
-tas-is v old r p e1 e2 = cc
+tas-is v old p q e1 e2 = cc
 
 module _ (d bound old r c : ℕ) (bx bn bz bv bc : Bool) where
   pub check-is : bn ≡ n-of old → r ≡ bit (leb 32768 (d % 65536) || ltb (biased bound) (biased d)) → bx ≡ x-of old → bz ≡ z-of old → bv ≡ v-of old → bc ≡ c-of old

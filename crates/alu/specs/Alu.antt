@@ -116,9 +116,9 @@ bit-operation v n k old z =
     let w = 2 ^ bit-number n z in
     record { v = low (bit-changed v w k) z; c = flags (x-of old) (n-of old) (eqb (bitAnd v w) 0) (v-of old) (c-of old) }
 
--- TAS: the flags of the byte before, and its top bit set  [003 B TAS]
+-- TAS: the flags of the byte before, and its bit 7 set  [003 B TAS]
 unfoldable pub tas : ℕ → ℕ → Flagged
-tas v old = record { v = low (bitOr v 128) 0; c = moved v old 0 .c }
+tas v old = record { v = bit-operation v 7 3 old 0 .v; c = moved v old 0 .c }
 
 -- a signed word as a number that compares as it does: the least is 0  [003 1.4]
 abbrev pub biased : ℕ → ℕ

@@ -208,17 +208,24 @@ pub fn bit_operation(v: u32, n: u32, k: u32, old: u32, z: u32) -> flags::Flagged
     let clear = v & w == 0;
     flags::Flagged {
         v: bits::cut(bit_changed(v, w, k) as u64, z),
-        c: flags::flags(flags::x_of(old), flags::n_of(old), clear, flags::v_of(old), flags::c_of(old)),
+        c: flags::flags(
+            flags::x_of(old),
+            flags::n_of(old),
+            clear,
+            flags::v_of(old),
+            flags::c_of(old),
+        ),
     }
 }
 
 pub fn tas(v: u32, old: u32) -> flags::Flagged
     ensures { λ r. ⌜ (r ≡ tas v old) × Of-size 0 r ⌝ }
 {
-    let p = moved(v, old, 0);
+    let before = moved(v, old, 0);
+    let set = bit_operation(v, 7, 3, old, 0);
     flags::Flagged {
-        v: bits::cut((v | 128) as u64, 0),
-        c: p.c,
+        v: set.v,
+        c: before.c,
     }
 }
 
@@ -231,6 +238,12 @@ pub fn check(d: u32, bound: u32, old: u32) -> flags::Flagged
     let n = below | (!above & flags::n_of(old));
     flags::Flagged {
         v: bits::bit(below | above),
-        c: flags::flags(flags::x_of(old), n, flags::z_of(old), flags::v_of(old), flags::c_of(old)),
+        c: flags::flags(
+            flags::x_of(old),
+            n,
+            flags::z_of(old),
+            flags::v_of(old),
+            flags::c_of(old),
+        ),
     }
 }
