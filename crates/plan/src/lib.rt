@@ -1,0 +1,120 @@
+// lib.rt - what an instruction leaves to do: one write, a trap or a stop, and where it stands. The instruction families share this.
+// Means: specs/Plans.antt.  Laws: proofs/PlanLaws.antt.
+// Uses: bits, flags, bus, operand.  Source: [01 step 3], [01 step 6], [01 step 9], [ours].
+ghost use mathlib.Core.Path.{_≡_};
+ghost use Prim.Native.Nat.{ℕ, _+_, _*_, _%_, _/_, _<_, _≤_};
+ghost use Rattle.plan.specs.Plans.{flagged, jump, nothing, trapping, refusing, stopping, writing, finish, push, quick};
+use bus::Flow;
+use flags::Flagged;
+use operand::Operand;
+
+// The write of v at `at`: z is 0 a byte, 1 a word, 2 a long, 3 nothing, 4 and 5 MOVEM's words and longs upward, 6 and 7 downward (v the
+// list, and 65,536 times the register that the list's address came from), 8 and 9 MOVEP's two and four bytes. `event` is 0, the vector of a trap, or
+// 256 for a stop; a plan with a trap writes nothing. `f` has the new PC and SR, and the fault if there is one: then nothing of this is done.
+pub struct Plan {
+    pub z: u32,
+    pub at: u32,
+    pub v: u32,
+    pub event: u32,
+    pub f: Flow,
+}
+
+// The flow with other flags.
+pub fn flagged(f: Flow, c: u32) -> Flow
+    ensures { λ g. ⌜ g ≡ flagged f c ⌝ }
+{
+    bus::with_sr(f, flags::with_ccr(f.sr, c))
+}
+
+// Every jump goes through here: PC becomes the target, odd or not.
+pub fn jump(f: Flow, to: u32) -> Flow
+    ensures { λ g. ⌜ g ≡ jump f to ⌝ }
+{
+    bus::moved(f, to)
+}
+
+pub fn nothing(f: Flow) -> Plan
+    ensures { λ p. ⌜ p ≡ nothing f ⌝ }
+{
+    Plan {
+        z: 3,
+        at: 0,
+        v: 0,
+        event: 0,
+        f,
+    }
+}
+
+// A trap whose saved PC is the next instruction's address.
+pub fn trapping(vec: u32, f: Flow) -> Plan
+    ensures { λ p. ⌜ p ≡ trapping vec f ⌝ }
+{
+    Plan {
+        z: 3,
+        at: 0,
+        v: 0,
+        event: vec,
+        f,
+    }
+}
+
+// A refused instruction: its saved PC is its own address, that of the first word.
+pub fn refusing(vec: u32, own: u32, f: Flow) -> Plan
+    ensures { λ p. ⌜ p ≡ refusing vec own f ⌝ }
+{
+    trapping(vec, bus::moved(f, own))
+}
+
+pub fn stopping(f: Flow) -> Plan
+    ensures { λ p. ⌜ p ≡ stopping f ⌝ }
+{
+    trapping(256, f)
+}
+
+pub fn writing(z: u32, at: u32, v: u32, f: Flow) -> Plan
+    ensures { λ p. ⌜ p ≡ writing z at v f ⌝ }
+{
+    Plan {
+        z,
+        at,
+        v,
+        event: 0,
+        f,
+    }
+}
+
+// A result and its flags go to their places: into a register at once, and to memory as a plan.
+pub fn finish(r: &mut [u32; 17], q: Operand, z: u32, a: Flagged) -> Plan
+    ensures { λ p. ⌜ p ≡ finish (now (r .entry)) q z a .p ⌝ }
+    ensures { λ p. ⌜ now (r .exit) ≡ finish (now (r .entry)) q z a .r ⌝ }
+{
+    let kind = q.kind;
+    let at = q.at;
+    let f = q.f;
+    let g = flagged(f, a.c);
+    let inside = kind == 0;
+    if inside {
+        operand::put_low(r, at, z, a.v);
+        return nothing(g);
+    }
+    writing(z, at, a.v, g)
+}
+
+// A long on the stack.
+pub fn push(r: &mut [u32; 17], v: u32, f: Flow) -> Plan
+    ensures { λ p. ⌜ p ≡ push (now (r .entry)) v f .p ⌝ }
+    ensures { λ p. ⌜ now (r .exit) ≡ push (now (r .entry)) v f .r ⌝ }
+{
+    let a = bits::minus(operand::get(r, 15), 4);
+    operand::put(r, 15, a);
+    writing(2, a, v, f)
+}
+
+// The data of ADDQ and SUBQ, and the count of a shift: 0 means 8.
+pub fn quick(op: u32) -> u32
+    ensures { λ n. ⌜ n ≡ quick op ⌝ }
+{
+    let n = op / 512 % 8;
+    let none = n == 0;
+    n + bits::bit(none) * 8
+}
