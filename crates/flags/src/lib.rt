@@ -4,7 +4,7 @@
 ghost use mathlib.Core.Path.{_≡_};
 ghost use Prim.Native.Nat.{ℕ, _+_, _*_, _%_, _/_, _<_, _≤_};
 ghost use lib.Dec.{eqb};
-ghost use Rattle.flags.specs.Flags.{flags, x-of, n-of, z-of, v-of, c-of, with-ccr, condition, condition-by};
+ghost use Rattle.flags.specs.Flags.{flags, x-of, n-of, z-of, v-of, c-of, with-ccr, sr-bits, condition, condition-by};
 
 // A result and the five flags that go with it.
 pub struct Flagged {
@@ -54,6 +54,13 @@ pub fn with_ccr(sr: u32, c: u32) -> u32
     ensures { λ r. ⌜ r ≡ with-ccr sr c ⌝ }
 {
     bits::joined(sr, sr % 32, c % 32)
+}
+
+// The bits that a status register has, $A71F; a write to it drops the others.
+pub fn sr_bits(x: u32) -> u32
+    ensures { λ r. ⌜ r ≡ sr-bits x ⌝ }
+{
+    x % 32 + x / 256 % 8 * 256 + x / 8192 % 2 * 8192 + x / 32768 % 2 * 32768
 }
 
 // Condition j, from 0 to 15, of four flags.
