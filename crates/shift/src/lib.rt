@@ -2,8 +2,6 @@
 // Means: specs/Shift.antt.  Laws: proofs/ShiftLaws.antt.
 // Uses: flags, bits.  Source: [003 B ASL LSL ROL ROXL], [003 A-1], [01 Arithmetic].
 ghost use mathlib.Core.Path.{_≡_};
-ghost use mathlib.Core.Bool.{Bool, true, false};
-ghost use Prim.Native.Nat.{ℕ, _+_, _*_, _%_, _/_, _<_, _≤_};
 ghost use Rattle.bits.specs.Bits.{iter};
 ghost use Rattle.shift.specs.Shift.{by-kind, one-left, one-right, one-place, shift};
 

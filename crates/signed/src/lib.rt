@@ -2,8 +2,8 @@
 // Means: specs/Signed.antt.  Laws: proofs/SignedLaws.antt, proofs/ResultLaws.antt.
 // Uses: flags, bits.  Source: [003 B MULS MULU DIVS DIVU], [01 Arithmetic], [01 step 5], [01 The shape of each place].
 ghost use mathlib.Core.Path.{_≡_};
-ghost use Prim.Native.Nat.{ℕ, _+_, _*_, _%_, _/_, _<_, _≤_};
-ghost use lib.IntN.{ℤ, pos, _*ℤ_};
+ghost use Prim.Native.Nat.{_<_};
+ghost use lib.IntN.{pos, _*ℤ_};
 ghost use lib.Signed.{quotZ, remZ, mag};
 ghost use Rattle.signed.specs.Signed.{signed-long, signed-word, low-long, outside-word, product-result, multiply-signed, multiply-unsigned, zero-divide, quotient-result, divide-signed, divide-unsigned};
 
