@@ -1,0 +1,193 @@
+// lib.rt - the bank of registers that an instruction sees, out of the twenty slots, and the slots after the instruction.
+// Means: specs/Bank.antt.  Laws: proofs/BankLaws.antt.
+// Uses: bits, flags, bus, plan.  Source: [01 What the box emulates, State], [01 step 4], [01 step 5].
+ghost use mathlib.Core.Path.{_≡_};
+ghost use Prim.Native.Nat.{ℕ, _+_, _*_, _%_, _/_, _<_, _≤_};
+ghost use lib.ListN.{getD, set};
+ghost use Rattle.bank.specs.Bank.{supervisor, tracing, bank, usp-after, ssp-after, sr-after, mode-after, slots-of, settle};
+use plan::Plan;
+
+pub fn supervisor(sr: u32) -> bool
+    ensures { λ r. ⌜ r ≡ supervisor sr ⌝ }
+{
+    sr / 8192 % 2 == 1
+}
+
+pub fn tracing(sr: u32) -> bool
+    ensures { λ r. ⌜ r ≡ tracing sr ⌝ }
+{
+    sr / 32768 % 2 == 1
+}
+
+// D0 to D7, A0 to A6, the active stack pointer as A7, and USP beside it in supervisor state.
+pub fn bank(s: &[u32; 20]) -> [u32; 17]
+    ensures { λ r. ⌜ r ≡ bank (now (s .entry)) ⌝ }
+{
+    let sup = s[18] / 8192 % 2 == 1;
+    if sup {
+        return [
+            s[0],
+            s[1],
+            s[2],
+            s[3],
+            s[4],
+            s[5],
+            s[6],
+            s[7],
+            s[8],
+            s[9],
+            s[10],
+            s[11],
+            s[12],
+            s[13],
+            s[14],
+            s[16],
+            s[15],
+        ];
+    }
+    [
+        s[0],
+        s[1],
+        s[2],
+        s[3],
+        s[4],
+        s[5],
+        s[6],
+        s[7],
+        s[8],
+        s[9],
+        s[10],
+        s[11],
+        s[12],
+        s[13],
+        s[14],
+        s[15],
+        0,
+    ]
+}
+
+// USP and SSP after an instruction: A7 goes back to the one that was active at its start.
+fn usp_after(s: &[u32; 20], r: &[u32; 17]) -> u32
+    ensures { λ q. ⌜ q ≡ usp-after (now (s .entry)) (now (r .entry)) ⌝ }
+{
+    let sup = s[18] / 8192 % 2 == 1;
+    if sup {
+        return r[16];
+    }
+    r[15]
+}
+
+fn ssp_after(s: &[u32; 20], r: &[u32; 17]) -> u32
+    ensures { λ q. ⌜ q ≡ ssp-after (now (s .entry)) (now (r .entry)) ⌝ }
+{
+    let sup = s[18] / 8192 % 2 == 1;
+    if sup {
+        return r[15];
+    }
+    s[16]
+}
+
+// SR after an instruction that began with sr: all of it in supervisor state, the flags in user state.
+fn sr_after(sr: u32, new: u32) -> u32
+    ensures { λ q. ⌜ q ≡ sr-after sr new ⌝ }
+{
+    let sup = supervisor(sr);
+    if sup {
+        return flags::sr_bits(new);
+    }
+    flags::with_ccr(sr, new)
+}
+
+// The mode after an instruction: 1 after a STOP in supervisor state that is not traced, else 0.
+fn mode_after(sr: u32, event: u32) -> u32
+    ensures { λ q. ⌜ q ≡ mode-after sr event ⌝ }
+{
+    let stop = event == 256;
+    let sup = supervisor(sr);
+    let trace = tracing(sr);
+    bits::bit(stop & sup & !trace)
+}
+
+// Twenty slots. Each value is a number of 32 bits by its type, which is what `long` says.
+fn slots_of(
+    d0: u32,
+    d1: u32,
+    d2: u32,
+    d3: u32,
+    d4: u32,
+    d5: u32,
+    d6: u32,
+    d7: u32,
+    a0: u32,
+    a1: u32,
+    a2: u32,
+    a3: u32,
+    a4: u32,
+    a5: u32,
+    a6: u32,
+    usp: u32,
+    ssp: u32,
+    pc: u32,
+    sr: u32,
+    mode: u32,
+) -> [u32; 20]
+    ensures { λ r. ⌜ r ≡ slots-of d0 d1 d2 d3 d4 d5 d6 d7 a0 a1 a2 a3 a4 a5 a6 usp ssp pc sr mode ⌝ }
+{
+    [
+        d0,
+        d1,
+        d2,
+        d3,
+        d4,
+        d5,
+        d6,
+        d7,
+        a0,
+        a1,
+        a2,
+        a3,
+        a4,
+        a5,
+        a6,
+        usp,
+        ssp,
+        pc,
+        sr,
+        mode,
+    ]
+}
+
+// The slots after an instruction that met no fault.
+pub fn settle(s: &mut [u32; 20], r: &[u32; 17], p: Plan)
+    ensures { λ _. ⌜ now (s .exit) ≡ settle (now (s .entry)) (now (r .entry)) p ⌝ }
+{
+    let f = p.f;
+    let old = s[18];
+    let usp = usp_after(s, r);
+    let ssp = ssp_after(s, r);
+    let sr = sr_after(old, f.sr);
+    let mode = mode_after(old, p.event);
+    let n = slots_of(
+        r[0],
+        r[1],
+        r[2],
+        r[3],
+        r[4],
+        r[5],
+        r[6],
+        r[7],
+        r[8],
+        r[9],
+        r[10],
+        r[11],
+        r[12],
+        r[13],
+        r[14],
+        usp,
+        ssp,
+        f.pc,
+        sr,
+        mode,
+    );
+    *s = n;
+}
