@@ -1,0 +1,75 @@
+-- Rows.antt - the condition codes of 003, instruction by instruction, each beside the definition that gives its flags.
+-- Not here, since they have no arithmetic: those that set no flag (ADDA SUBA MOVEA, ADDQ and SUBQ to An, Bcc BRA BSR DBcc Scc EXG ILLEGAL JMP JSR LEA
+-- LINK MOVEM MOVEP NOP PEA RESET RTS TRAP TRAPV UNLK, MOVE from SR and USP), and those that write CCR or SR whole (ANDI EORI ORI MOVE to CCR and SR, RTE RTR STOP).
+-- Theorem: flags-obey-rows of proofs/RowsLaws.antt.  Source: [003 B], [01 Arithmetic], [01 step 5].
+use Prim.Native.Nat.{ℕ, _%_, _^_}
+use mathlib.Core.Bool.{Bool, true, false, _&&_, _||_, not}
+use mathlib.Core.List.{List, [], _∷_}
+use lib.Dec.{ltb, leb, eqb}
+use lib.Bits.{bitAnd}
+use Rattle.bits.specs.Bits.{low}
+use Rattle.witness.specs.Marks.{Mark, as-result, cleared-or-kept, by-formula, kept, cleared, set-to-1, undefined, Row, row, Operands, Entry, always, in-case}
+use Rattle.alu.specs.Alu.{add, add-extended, subtract, subtract-extended, negate, negate-extended, compare, moved, and, or, exclusive-or, complement, extended, swapped, bit-number, bit-operation, tas, biased, check}
+use Rattle.decimal.specs.Decimal.{decimal-add, decimal-subtract, decimal-negate}
+
+-- the rows that many instructions have: sums, sums with X, comparisons, moves and logic, decimal  [003 A-1]
+abbrev pub sum-row : Row
+sum-row = row as-result as-result as-result by-formula by-formula
+
+abbrev pub extended-row : Row
+extended-row = row as-result as-result cleared-or-kept by-formula by-formula
+
+abbrev pub compare-row : Row
+compare-row = row kept as-result as-result by-formula by-formula
+
+abbrev pub move-row : Row
+move-row = row kept as-result as-result cleared cleared
+
+abbrev pub decimal-row : Row
+decimal-row = row as-result undefined cleared-or-kept undefined by-formula
+
+-- CHK's two tests  [003 B CHK]
+abbrev pub below : Operands → Bool
+below o = leb 32768 (o .a % 65536)
+
+abbrev pub above : Operands → Bool
+above o = ltb (biased (o .b)) (biased (o .a))
+
+abbrev pub rows : List Entry
+rows =
+    -- ADD, ADDI, ADDQ; SUB, SUBI, SUBQ; NEG  [003 B ADD, SUB, NEG]
+    always sum-row (λ o. o .z) (λ o old. add (o .a) (o .b) (o .z))
+    ∷ always sum-row (λ o. o .z) (λ o old. subtract (o .a) (o .b) (o .z))
+    ∷ always sum-row (λ o. o .z) (λ o old. negate (o .a) (o .z))
+    -- ADDX, SUBX, NEGX  [003 B ADDX, SUBX, NEGX] [01 Arithmetic]
+    ∷ always extended-row (λ o. o .z) (λ o old. add-extended (o .a) (o .b) old (o .z))
+    ∷ always extended-row (λ o. o .z) (λ o old. subtract-extended (o .a) (o .b) old (o .z))
+    ∷ always extended-row (λ o. o .z) (λ o old. negate-extended (o .a) old (o .z))
+    -- CMP, CMPA, CMPI, CMPM: judged by the difference  [003 B CMP]
+    ∷ always compare-row (λ o. o .z) (λ o old. record { v = subtract (o .a) (o .b) (o .z) .v; c = compare (o .a) (o .b) old (o .z) .c })
+    -- MOVE, TST; MOVEQ  [003 B MOVE, TST, MOVEQ]
+    ∷ always move-row (λ o. o .z) (λ o old. moved (o .b) old (o .z))
+    ∷ always move-row (λ o. 2) (λ o old. moved (o .b) old 2)
+    -- CLR  [003 B CLR]
+    ∷ always (row kept cleared set-to-1 cleared cleared) (λ o. o .z) (λ o old. moved 0 old (o .z))
+    -- AND, ANDI; OR, ORI; EOR, EORI; NOT  [003 B AND, OR, EOR, NOT]
+    ∷ always move-row (λ o. o .z) (λ o old. and (o .a) (o .b) old (o .z))
+    ∷ always move-row (λ o. o .z) (λ o old. or (o .a) (o .b) old (o .z))
+    ∷ always move-row (λ o. o .z) (λ o old. exclusive-or (o .a) (o .b) old (o .z))
+    ∷ always move-row (λ o. o .z) (λ o old. complement (o .a) old (o .z))
+    -- EXT; SWAP; TAS, judged by the byte before  [003 B EXT, SWAP, TAS]
+    ∷ always move-row (λ o. o .z) (λ o old. extended (o .a) old (o .z))
+    ∷ always move-row (λ o. 2) (λ o old. swapped (o .a) old)
+    ∷ always move-row (λ o. 0) (λ o old. record { v = low (o .a) 0; c = tas (o .a) old .c })
+    -- BTST, BCHG, BCLR, BSET: judged by the bit before  [003 B BTST, BCHG, BCLR, BSET]
+    ∷ always (row kept kept as-result kept kept) (λ o. o .z)
+    (λ o old. record { v = bitAnd (o .a) (2 ^ bit-number (o .n) (o .z)); c = bit-operation (o .a) (o .n) (o .k) old (o .z) .c })
+    -- CHK below 0, above the bound, within  [003 B CHK] [01 step 5]
+    ∷ in-case (row kept set-to-1 undefined undefined undefined) below (λ o. 1) (λ o old. check (o .a) (o .b) old)
+    ∷ in-case (row kept cleared undefined undefined undefined) (λ o. not (below o) && above o) (λ o. 1) (λ o old. check (o .a) (o .b) old)
+    ∷ in-case (row kept undefined undefined undefined undefined) (λ o. not (below o) && not (above o)) (λ o. 1) (λ o old. check (o .a) (o .b) old)
+    -- ABCD, SBCD, NBCD  [003 B ABCD, SBCD, NBCD] [01 Arithmetic]
+    ∷ always decimal-row (λ o. 0) (λ o old. decimal-add (o .a) (o .b) old)
+    ∷ always decimal-row (λ o. 0) (λ o old. decimal-subtract (o .a) (o .b) old)
+    ∷ always decimal-row (λ o. 0) (λ o old. decimal-negate (o .a) old)
+    ∷ []
