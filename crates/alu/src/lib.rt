@@ -2,11 +2,10 @@
 // Means: specs/Alu.antt.  Laws: proofs/AluLaws.antt.
 // Uses: bits, flags.  Source: [003 A-1], [003 B], [01 Arithmetic].
 ghost use mathlib.Core.Path.{_≡_};
-ghost use mathlib.Core.Bool.{true, false};
-ghost use Prim.Native.Nat.{ℕ, _+_, _*_, _%_, _/_, _-_, _^_, _<_, _≤_};
-ghost use Rattle.bits.specs.Bits.{modulus, low};
+ghost use Prim.Native.Nat.{_^_, _<_, _≤_};
+ghost use Rattle.bits.specs.Bits.{modulus};
 ghost use Rattle.alu.specs.Alu.{Of-size, sum, difference, concluded, continued, add, add-extended, subtract, subtract-extended, negate, negate-extended, compare};
-ghost use Rattle.alu.specs.Alu.{moved, and, or, exclusive-or, complement, extended, swapped, bit-number, bit-changed, bit-operation, tas, biased, check};
+ghost use Rattle.alu.specs.Alu.{moved, and, or, exclusive-or, complement, extended, swapped, bit-number, bit-changed, bit-operation, tas, check};
 
 // A sum or difference: its value, whether that is negative, overflow, carry or borrow.
 pub struct Outcome {

@@ -1,2 +1,4 @@
 pub mod MarksLaws
+pub mod ShiftRowsLaws
+pub mod DivideRowsLaws
 pub mod RowsLaws

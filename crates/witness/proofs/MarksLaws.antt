@@ -1,16 +1,15 @@
 -- MarksLaws.antt - laws of specs/Marks.antt: each flag of `flags x n z v c` is its own; flags whose parts follow a row obey it.
 -- x-of-flags, n-of-flags, z-of-flags, v-of-flags, c-of-flags; obeys-of-flags.
 -- Uses: bits, flags.
-use Prim.Native.Nat.{ℕ, _+_, _*_, _%_, _/_, _≤_}
+use Prim.Native.Nat.{ℕ, _%_, _/_}
 use native.Mathlib.Omega.{arith}
-use mathlib.Core.Path.{_≡_, refl, sym, ap, _∙_}
+use mathlib.Core.Path.{_≡_}
 use mathlib.Core.Bool.{Bool, true, false}
 use lib.Dec.{leb, eqb}
 use Rattle.bits.specs.Bits.{bit, half}
 use Rattle.bits.proofs.BitsLaws.{bit-bound}
-use Rattle.flags.specs.declared.Flagged.{Flagged}
 use Rattle.flags.specs.Flags.{flags, x-of, n-of, z-of, v-of, c-of}
-use Rattle.witness.specs.Marks.{Mark, as-result, kept, cleared, set-to-1, undefined, Row, row, Follows, Obeys}
+use Rattle.witness.specs.Marks.{Row, row, Follows, Obeys}
 
 test-of-bit : (k : ℕ) (b : Bool) → k ≡ bit b → eqb k 1 ≡ b
 test-of-bit k true e = rw e

@@ -1,23 +1,26 @@
 -- RowsLaws.antt - the theorem of specs/Rows.antt: the flags that the arithmetic of every instruction gives obey its row.
--- A law for each shape of flags (concluded-obeys .. decimal-obeys), rows-hold over the list, and flags-obey-rows.
--- Uses: bits, flags, alu, decimal.
+-- A law for each shape of flags (concluded-obeys .. decimal-obeys; those of division and of shifts stand beside), rows-hold over the list, flags-obey-rows.
+-- Uses: bits, flags, alu, decimal, signed, shift.
 use Prim.Native.Nat.{ℕ, zero, suc, _<_, _%_, _^_}
 use native.Mathlib.Omega.{arith}
-use mathlib.Core.Path.{_≡_, refl, sym, ap, _∙_}
+use mathlib.Core.Path.{_≡_, refl, sym}
 use mathlib.Core.Bool.{Bool, true, false, _&&_, _||_, not}
 use mathlib.Core.List.{List, [], _∷_}
 use lib.ListN.{getD, length}
 use lib.Dec.{ltb, leb, eqb}
 use lib.Bits.{bitAnd}
 use Rattle.bits.specs.Bits.{pick, half, low, by-size}
-use Rattle.flags.specs.declared.Flagged.{Flagged}
-use Rattle.flags.specs.Flags.{flags, x-of, n-of, z-of, v-of, c-of}
+use Rattle.flags.specs.Flags.{flags, n-of}
 use Rattle.alu.specs.declared.Outcome.{Outcome}
 use Rattle.alu.specs.Alu.{sum, difference, concluded, continued, compare, moved, bit-number, bit-operation, tas, biased, check}
 use Rattle.decimal.specs.Decimal.{decimal-result, decimal-add, decimal-subtract}
-use Rattle.witness.specs.Marks.{Mark, as-result, cleared-or-kept, by-formula, kept, cleared, set-to-1, undefined, Row, row, Follows, Obeys, Operands, Entry, Kept-to}
-use Rattle.witness.specs.Rows.{rows, sum-row, extended-row, compare-row, move-row, decimal-row, below, above}
+use Rattle.signed.specs.Signed.{multiply-signed, divide-signed, divide-unsigned}
+use Rattle.shift.specs.Shift.{by-kind}
+use Rattle.witness.specs.Marks.{Mark, as-result, by-formula, kept, cleared, set-to-1, undefined, row, Follows, Obeys, Entry, Kept-to}
+use Rattle.witness.specs.Rows.{rows, sum-row, extended-row, compare-row, move-row, decimal-row, below, above, no-divisor, outside-signed, outside-unsigned}
 use Rattle.witness.proofs.MarksLaws.{obeys-of-flags}
+use Rattle.witness.proofs.DivideRowsLaws.{product-obeys, quotient-obeys, overflow-obeys, zero-obeys}
+use Rattle.witness.proofs.ShiftRowsLaws.{arithmetic-left-obeys, arithmetic-right-obeys, logical-obeys, extend-obeys, rotate-obeys, still-obeys}
 
 -- sums and differences, whose N is the top bit of the result
 sum-sign : (a b : ℕ) (x : Bool) (z : ℕ) → sum a b x z .n ≡ leb (half z) (sum a b x z .r)
@@ -64,9 +67,8 @@ unfolding bit-operation
 bit-obeys v n k old z = obeys-of-flags _ _ _ _ _ _ _ _ _ refl refl refl refl refl
 
 -- CHK's N in its three cases
-module _ (b a n : Bool) where
-  n-below : b ≡ true → (b || (not a && n)) ≡ true
-  n-below e = rw e
+n-below : (b a n : Bool) → b ≡ true → (b || (not a && n)) ≡ true
+n-below b a n e = rw e
 
 n-above : (b a n : Bool) → (not b && a) ≡ true → (b || (not a && n)) ≡ false
 n-above true a n e = sym e
@@ -94,7 +96,7 @@ data All-kept-to : List Entry → Type 0 where
   _▸_ : {e : Entry} {es : List Entry} → Kept-to e → All-kept-to es → All-kept-to (e ∷ es)
 
 rows-hold : All-kept-to rows
-unfolding decimal-add decimal-subtract
+unfolding decimal-add decimal-subtract multiply-signed divide-signed divide-unsigned by-kind
 rows-hold =
     (λ o old h. concluded-obeys _ _ _ (sum-sign _ _ _ _))
     ▸ (λ o old h. concluded-obeys _ _ _ (difference-sign _ _ _ _))
@@ -120,6 +122,23 @@ rows-hold =
     ▸ (λ o old h. decimal-obeys _ _ _)
     ▸ (λ o old h. decimal-obeys _ _ _)
     ▸ (λ o old h. decimal-obeys _ _ _)
+    ▸ (λ o old h. product-obeys _ _)
+    ▸ (λ o old h. product-obeys _ _)
+    ▸ (λ o old h. quotient-obeys (no-divisor o) (outside-signed o) _ _ _ _ h)
+    ▸ (λ o old h. quotient-obeys (no-divisor o) (outside-unsigned o) _ _ _ _ h)
+    ▸ (λ o old h. overflow-obeys (no-divisor o) (outside-signed o) _ _ _ _ h)
+    ▸ (λ o old h. overflow-obeys (no-divisor o) (outside-unsigned o) _ _ _ _ h)
+    ▸ (λ o old h. zero-obeys (no-divisor o) (outside-signed o) _ _ _ _ h)
+    ▸ (λ o old h. zero-obeys (no-divisor o) (outside-unsigned o) _ _ _ _ h)
+    ▸ (λ o old h. arithmetic-left-obeys _ _ _ _ h)
+    ▸ (λ o old h. arithmetic-right-obeys _ _ _ _ h)
+    ▸ (λ o old h. still-obeys _ _ _ _ _ _ h cleared refl)
+    ▸ (λ o old h. logical-obeys _ _ _ _ _ h)
+    ▸ (λ o old h. still-obeys _ _ _ _ _ _ h cleared refl)
+    ▸ (λ o old h. extend-obeys _ _ _ _ _)
+    ▸ (λ o old h. still-obeys _ _ _ _ _ _ h by-formula tt)
+    ▸ (λ o old h. rotate-obeys _ _ _ _ _)
+    ▸ (λ o old h. still-obeys _ _ _ _ _ _ h cleared refl)
     ▸ none
 
 all-at : (es : List Entry) (d : Entry) → All-kept-to es → (i : ℕ) → i < length es → Kept-to (getD es i d)

@@ -2,15 +2,20 @@
 -- Not here, since they have no arithmetic: those that set no flag (ADDA SUBA MOVEA, ADDQ and SUBQ to An, Bcc BRA BSR DBcc Scc EXG ILLEGAL JMP JSR LEA
 -- LINK MOVEM MOVEP NOP PEA RESET RTS TRAP TRAPV UNLK, MOVE from SR and USP), and those that write CCR or SR whole (ANDI EORI ORI MOVE to CCR and SR, RTE RTR STOP).
 -- Theorem: flags-obey-rows of proofs/RowsLaws.antt.  Source: [003 B], [01 Arithmetic], [01 step 5].
-use Prim.Native.Nat.{ℕ, _%_, _^_}
-use mathlib.Core.Bool.{Bool, true, false, _&&_, _||_, not}
+use Prim.Native.Nat.{_%_, _/_, _^_}
+use mathlib.Core.Bool.{Bool, true, false, _&&_, not}
 use mathlib.Core.List.{List, [], _∷_}
 use lib.Dec.{ltb, leb, eqb}
 use lib.Bits.{bitAnd}
+use lib.Signed.{quotZ}
 use Rattle.bits.specs.Bits.{low}
-use Rattle.witness.specs.Marks.{Mark, as-result, cleared-or-kept, by-formula, kept, cleared, set-to-1, undefined, Row, row, Operands, Entry, always, in-case}
+use Rattle.witness.specs.Marks.{as-result, cleared-or-kept, by-formula, kept, cleared, set-to-1, undefined, Row, row, Operands, Entry, always, in-case}
 use Rattle.alu.specs.Alu.{add, add-extended, subtract, subtract-extended, negate, negate-extended, compare, moved, and, or, exclusive-or, complement, extended, swapped, bit-number, bit-operation, tas, biased, check}
 use Rattle.decimal.specs.Decimal.{decimal-add, decimal-subtract, decimal-negate}
+use Rattle.flags.specs.declared.Flagged.{Flagged}
+use Rattle.signed.specs.declared.Divided.{Divided}
+use Rattle.signed.specs.Signed.{signed-long, signed-word, outside-word, multiply-signed, multiply-unsigned, divide-signed, divide-unsigned}
+use Rattle.shift.specs.Shift.{shift}
 
 -- the rows that many instructions have: sums, sums with X, comparisons, moves and logic, decimal  [003 A-1]
 abbrev pub sum-row : Row
@@ -28,12 +33,46 @@ move-row = row kept as-result as-result cleared cleared
 abbrev pub decimal-row : Row
 decimal-row = row as-result undefined cleared-or-kept undefined by-formula
 
+-- rows of a shift that alters X as C, of a rotate, which keeps X, and of a zero divisor and an overflow  [003 A-1] [01 step 5]
+abbrev pub shift-row : Row
+shift-row = row as-result as-result as-result cleared by-formula
+
+abbrev pub rotate-row : Row
+rotate-row = row kept as-result as-result cleared by-formula
+
+abbrev pub zero-row : Row
+zero-row = row kept cleared cleared cleared cleared
+
+abbrev pub overflow-row : Row
+overflow-row = row kept undefined undefined set-to-1 cleared
+
 -- CHK's two tests  [003 B CHK]
 abbrev pub below : Operands → Bool
 below o = leb 32768 (o .a % 65536)
 
 abbrev pub above : Operands → Bool
 above o = ltb (biased (o .b)) (biased (o .a))
+
+-- DIVS and DIVU: the divisor is 0; the quotient is outside its 16 bits  [003 B DIVS, DIVU]
+abbrev pub no-divisor : Operands → Bool
+no-divisor o = eqb (o .b % 65536) 0
+
+abbrev pub outside-signed : Operands → Bool
+outside-signed o = outside-word (quotZ (signed-long (o .a)) (signed-word (o .b)))
+
+abbrev pub outside-unsigned : Operands → Bool
+outside-unsigned o = ltb 65535 (o .a / (o .b % 65536))
+
+-- a division judged by its quotient, the low word  [003 B DIVS, DIVU]
+abbrev pub by-quotient : Divided → Flagged
+by-quotient d = record { v = d .v % 65536; c = d .c }
+
+-- a shift's side, and whether it moves nothing: the count is 0 modulo 64  [003 B ASL] [01 Arithmetic]
+abbrev pub to-left : Operands → Bool
+to-left o = eqb (o .k) 1
+
+abbrev pub count-0 : Operands → Bool
+count-0 o = eqb (o .n % 64) 0
 
 abbrev pub rows : List Entry
 rows =
@@ -72,4 +111,27 @@ rows =
     ∷ always decimal-row (λ o. 0) (λ o old. decimal-add (o .a) (o .b) old)
     ∷ always decimal-row (λ o. 0) (λ o old. decimal-subtract (o .a) (o .b) old)
     ∷ always decimal-row (λ o. 0) (λ o old. decimal-negate (o .a) old)
+    -- MULS, MULU  [003 B MULS, MULU]
+    ∷ always move-row (λ o. 2) (λ o old. multiply-signed (o .a) (o .b) old)
+    ∷ always move-row (λ o. 2) (λ o old. multiply-unsigned (o .a) (o .b) old)
+    -- DIVS, DIVU, judged by the quotient: within its 16 bits, outside, zero divisor  [003 B DIVS, DIVU] [01 Arithmetic] [01 step 5]
+    ∷ in-case move-row (λ o. not (no-divisor o) && not (outside-signed o)) (λ o. 1) (λ o old. by-quotient (divide-signed (o .a) (o .b) old))
+    ∷ in-case move-row (λ o. not (no-divisor o) && not (outside-unsigned o)) (λ o. 1) (λ o old. by-quotient (divide-unsigned (o .a) (o .b) old))
+    ∷ in-case overflow-row (λ o. not (no-divisor o) && outside-signed o) (λ o. 1) (λ o old. by-quotient (divide-signed (o .a) (o .b) old))
+    ∷ in-case overflow-row (λ o. not (no-divisor o) && outside-unsigned o) (λ o. 1) (λ o old. by-quotient (divide-unsigned (o .a) (o .b) old))
+    ∷ in-case zero-row no-divisor (λ o. 1) (λ o old. by-quotient (divide-signed (o .a) (o .b) old))
+    ∷ in-case zero-row no-divisor (λ o. 1) (λ o old. by-quotient (divide-unsigned (o .a) (o .b) old))
+    -- ASL; ASR; both by no place  [003 B ASL] [003 A-1] [01 Arithmetic]
+    ∷ in-case sum-row (λ o. not (count-0 o)) (λ o. o .z) (λ o old. shift 0 true (o .a) (o .n) (o .z) old)
+    ∷ in-case shift-row (λ o. not (count-0 o)) (λ o. o .z) (λ o old. shift 0 false (o .a) (o .n) (o .z) old)
+    ∷ in-case move-row count-0 (λ o. o .z) (λ o old. shift 0 (to-left o) (o .a) (o .n) (o .z) old)
+    -- LSL, LSR; by no place  [003 B LSL] [003 A-1] [01 Arithmetic]
+    ∷ in-case shift-row (λ o. not (count-0 o)) (λ o. o .z) (λ o old. shift 1 (to-left o) (o .a) (o .n) (o .z) old)
+    ∷ in-case move-row count-0 (λ o. o .z) (λ o old. shift 1 (to-left o) (o .a) (o .n) (o .z) old)
+    -- ROXL, ROXR; by no place C is X, which is kept  [003 B ROXL] [003 A-1] [01 Arithmetic]
+    ∷ always shift-row (λ o. o .z) (λ o old. shift 2 (to-left o) (o .a) (o .n) (o .z) old)
+    ∷ in-case rotate-row count-0 (λ o. o .z) (λ o old. shift 2 (to-left o) (o .a) (o .n) (o .z) old)
+    -- ROL, ROR; by no place  [003 B ROL] [003 A-1] [01 Arithmetic]
+    ∷ always rotate-row (λ o. o .z) (λ o old. shift 3 (to-left o) (o .a) (o .n) (o .z) old)
+    ∷ in-case move-row count-0 (λ o. o .z) (λ o old. shift 3 (to-left o) (o .a) (o .n) (o .z) old)
     ∷ []
