@@ -15,6 +15,11 @@ abbrev pub pick : {A : Type 0} → Bool → A → A → A
 pick true x y = x
 pick false x y = y
 
+-- Both of two truth values. [ours]
+abbrev pub both : Bool → Bool → Bool
+both true b = b
+both false b = false
+
 -- The bytes of v, in at most k groups after the first; bit 7 is set in each but the first. [01 The journal]
 abbrev pub groups : ℕ → ℕ → List ℕ
 groups zero v = v ∷ []
