@@ -1,0 +1,4 @@
+pub mod WrittenLaws
+pub mod NumberLaws
+pub mod GroupSteps
+pub mod ExampleLaws

@@ -1,0 +1,4 @@
+pub mod ChangeLaws
+pub mod KeptLaws
+pub mod DiffLaws
+pub mod SizeLaws

@@ -1,0 +1,104 @@
+// lib.rt - the record of a step: what differs, with its old values, written at the mark.
+// Means: specs/Change.antt.  Laws: proofs/ChangeLaws.antt, proofs/DiffLaws.antt, proofs/KeptLaws.antt, proofs/SizeLaws.antt.
+// Uses: numbers.  Source: [01 The journal].
+pub mod limits;
+
+use limits::SLOT_LIMIT;
+use numbers::put_number;
+ghost use mathlib.Core.Path.{_≡_};
+ghost use Prim.Native.Nat.{_+_, _≤_, _<_, _^_};
+ghost use lib.ListN.{length};
+ghost use Rattle.numbers.specs.Number.{written};
+ghost use Rattle.record.specs.Change.{changed, AllPut, diffs, restore, kept, Ascending, changes, change-bytes, changes-bytes, step-record};
+
+// The place after what was written, and how many changes that was.
+pub struct Put {
+    pub at: usize,
+    pub count: u32,
+}
+
+// Writes one change at place at.
+fn put_change(journal: &mut [u8], at: usize, place: u32, old: u32) -> usize
+    requires { ⌜ at + length (change-bytes (record { place = place; old = old })) ≤ length (now journal) ⌝ }
+    ensures next { λ r. ⌜ r ≡ at + length (change-bytes (record { place = place; old = old })) ⌝ }
+    ensures bytes { λ _. ⌜ now (journal .exit) ≡ written (now (journal .entry)) at (change-bytes (record { place = place; old = old })) ⌝ }
+{
+    let p = put_number(journal, at, place);
+    put_number(journal, p, old)
+}
+
+// Writes the change at a place, if there is one.
+fn put_changed(journal: &mut [u8], put: Put, place: u32, old: u32, new: u32) -> Put
+    requires { ⌜ (put .count + 1 < 2 ^ 32) × (put .at + length (changes-bytes (changed place old new)) ≤ length (now journal)) ⌝ }
+    ensures next { λ r. ⌜ r .at ≡ put .at + length (changes-bytes (changed place old new)) ⌝ }
+    ensures count { λ r. ⌜ r .count ≡ put .count + length (changed place old new) ⌝ }
+    ensures bytes { λ _. ⌜ now (journal .exit) ≡ written (now (journal .entry)) (put .at) (changes-bytes (changed place old new)) ⌝ }
+{
+    if old == new {
+        return put;
+    }
+    let at = put_change(journal, put.at, place, old);
+    Put {
+        at,
+        count: put.count + 1,
+    }
+}
+
+// Writes the changes between two sets of slots.
+fn put_slots(journal: &mut [u8], at: usize, old: &[u32], new: &[u32]) -> Put
+    requires { ⌜ (length (now old) ≡ length (now new)) × (length (now old) < 2 ^ 32) ⌝ }
+    requires { ⌜ at + length (changes-bytes (diffs 0 (now old) (now new))) ≤ length (now journal) ⌝ }
+    ensures { λ r. ⌜ AllPut (now (journal .entry)) at (diffs 0 (now (old .entry)) (now (new .entry))) (now (journal .exit)) r ⌝ }
+{
+    let mut put = Put { at, count: 0 };
+    let mut i = 0;
+    while i < old.len() {
+        put = put_changed(journal, put, i as u32, old[i], new[i]);
+        i += 1;
+    }
+    put
+}
+
+// Writes the changes of a log whose old value the memory does not hold any more.
+fn put_bytes(journal: &mut [u8], at: usize, memory: &[u8], log: &[u64], n: usize) -> Put
+    requires { ⌜ (n ≤ length (now log)) × (n < 2 ^ 32) × Ascending 0 (length (now memory)) (changes (now log) n) ⌝ }
+    requires { ⌜ at + length (changes-bytes (kept (now memory) (changes (now log) n))) ≤ length (now journal) ⌝ }
+    ensures { λ r. ⌜ AllPut (now (journal .entry)) at (kept (now (memory .entry)) (changes (now (log .entry)) n)) (now (journal .exit)) r ⌝ }
+{
+    let mut put = Put { at, count: 0 };
+    let mut i = 0;
+    while i < n {
+        let e = log[i];
+        let a = (e / 4294967296) as usize;
+        put = put_changed(
+            journal,
+            put,
+            (e / 4294967296) as u32,
+            (e % 4294967296) as u32,
+            memory[a] as u32,
+        );
+        i += 1;
+    }
+    put
+}
+
+// Writes the record of a step at the mark, and returns the new mark. The log has each place that was written, with its value before the step.
+pub fn put_record(
+    journal: &mut [u8],
+    mark: usize,
+    old: &[u32; SLOT_LIMIT],
+    new: &[u32; SLOT_LIMIT],
+    memory: &[u8],
+    log: &[u64],
+    n: usize,
+) -> usize
+    requires { ⌜ (n ≤ length (now log)) × (n < 2 ^ 32) × Ascending 0 (length (now memory)) (changes (now log) n) ⌝ }
+    requires { ⌜ mark + length (step-record (now old) (now new) (restore (changes (now log) n) (now memory)) (now memory)) ≤ length (now journal) ⌝ }
+    ensures next { λ r. ⌜ r ≡ mark + length (step-record (now (old .entry)) (now (new .entry)) (restore (changes (now (log .entry)) n) (now (memory .entry))) (now (memory .entry))) ⌝ }
+    ensures bytes { λ _. ⌜ now (journal .exit) ≡ written (now (journal .entry)) mark (step-record (now (old .entry)) (now (new .entry)) (restore (changes (now (log .entry)) n) (now (memory .entry))) (now (memory .entry))) ⌝ }
+{
+    let s = put_slots(journal, mark, old, new);
+    let b = put_bytes(journal, s.at, memory, log, n);
+    let c = put_number(journal, b.at, s.count);
+    put_number(journal, c, b.count)
+}

@@ -1,0 +1,35 @@
+// limits.rt - how much a record may hold, and which values a slot may have. The one place that says it.
+// Means: specs/Limits.antt.  Laws: proofs/SizeLaws.antt.
+// Uses: nothing.  Source: [01 The journal], [01 State].
+ghost use mathlib.Core.Path.{_≡_};
+ghost use Rattle.record.specs.Limits.{valid-status, valid-value};
+
+pub const SLOT_LIMIT: usize = 20;
+
+pub const BYTE_LIMIT: usize = 70;
+
+pub const LONGEST_RECORD: usize = 536;
+
+pub const STATUS_SLOT: u32 = 18;
+
+pub const MODE_SLOT: u32 = 19;
+
+// Whether v has no bit that the status register lacks.
+pub fn valid_status(v: u32) -> bool
+    ensures { λ r. ⌜ r ≡ valid-status v ⌝ }
+{
+    v / 32 % 8 + v / 2048 % 4 + v / 16384 % 2 + v / 65536 == 0
+}
+
+// Whether the slot at a place can hold v.
+pub fn valid_value(place: u32, v: u32) -> bool
+    ensures { λ r. ⌜ r ≡ valid-value place v ⌝ }
+{
+    if place == STATUS_SLOT {
+        return valid_status(v);
+    }
+    if place == MODE_SLOT {
+        return v < 3;
+    }
+    true
+}

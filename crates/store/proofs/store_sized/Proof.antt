@@ -1,0 +1,75 @@
+-- store_sized: by size; a law for each return.
+use Prim.Native.Nat.{ℕ}
+use denote.Ref.{now}
+use Rattle.store.proofs.StoreLaws.{size-byte, size-word, size-long, stored-sized-byte, stored-sized-word, stored-sized-long}
+use borrow.Author.Needs.{needs}
+use Rattle.store.proofs.store_sized.Statement.{statement}
+use Rattle.store.proofs.store_sized.Tie as tie
+
+store-byte-requires : tie.Need-store-byte-requires
+store-byte-requires c κs =
+    let s = c .before .before .before .before .before in
+    (s .pre .0, rw (size-byte {A = ℕ} (s .args .z) 1 2 4 (c .before .before .if1 .taken)) at (s .pre .1))
+
+same-length : tie.Need-same-length
+same-length c = search needs
+
+same-length-2 : tie.Need-same-length-2
+same-length-2 c = search needs
+
+returns : tie.Need-returns
+returns c =
+    let s = c .before .before .before .before .before .before .before .before .before .before in
+    let g = c .before .before .before .before .store-byte in
+    stored-sized-byte (now (s .args .memory)) (now (s .args .log)) (s .args .n) (s .args .a) (s .args .z) (s .args .v) (g .last .0) (g .last .1 .0) (g .result) (c .before .before .before .before .before .before .before .if1 .taken) (g .ensures)
+
+store-word-requires : tie.Need-store-word-requires
+store-word-requires c κs =
+    let s = c .before .before .before .before .before .before in
+    (s .pre .0, rw (size-word {A = ℕ} (s .args .z) 1 2 4 (c .before .before .before .if1 .left) (c .before .before .if2 .taken)) at (s .pre .1))
+
+same-length-3 : tie.Need-same-length-3
+same-length-3 c = search needs
+
+same-length-4 : tie.Need-same-length-4
+same-length-4 c = search needs
+
+returns-2 : tie.Need-returns-2
+returns-2 c =
+    let s = c .before .before .before .before .before .before .before .before .before .before .before in
+    let g = c .before .before .before .before .store-word in
+    stored-sized-word (now (s .args .memory)) (now (s .args .log)) (s .args .n) (s .args .a) (s .args .z) (s .args .v) (g .last .0) (g .last .1 .0) (g .result) (c .before .before .before .before .before .before .before .before .if1 .left) (c .before .before .before .before .before .before .before .if2 .taken) (g .ensures)
+
+store-long-requires : tie.Need-store-long-requires
+store-long-requires c κs =
+    let s = c .before .before .before .before .before .before in
+    (s .pre .0, rw (size-long {A = ℕ} (s .args .z) 1 2 4 (c .before .before .before .if1 .left) (c .before .before .if2 .left)) at (s .pre .1))
+
+same-length-5 : tie.Need-same-length-5
+same-length-5 c = search needs
+
+same-length-6 : tie.Need-same-length-6
+same-length-6 c = search needs
+
+returns-3 : tie.Need-returns-3
+returns-3 c =
+    let s = c .before .before .before .before .before .before .before .before .before .before .before in
+    let g = c .before .before .before .before .store-long in
+    stored-sized-long (now (s .args .memory)) (now (s .args .log)) (s .args .n) (s .args .a) (s .args .z) (s .args .v) (g .last .0) (g .last .1 .0) (g .result) (c .before .before .before .before .before .before .before .before .if1 .left) (c .before .before .before .before .before .before .before .if2 .left) (g .ensures)
+
+pub store-sized-spec : {M : Type 1} → statement M
+store-sized-spec =
+    tie.close
+    (tie.spec
+    store-byte-requires
+    same-length
+    same-length-2
+    returns
+    store-word-requires
+    same-length-3
+    same-length-4
+    returns-2
+    store-long-requires
+    same-length-5
+    same-length-6
+    returns-3)

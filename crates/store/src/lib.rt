@@ -1,0 +1,56 @@
+// lib.rt - the puts of a step: what stood at each place is noted in the touch log, then the new bytes are put.
+// Means: put-byte, put-word, put-long, put-sized of bus; Noted of touch.  Laws: proofs/StoreLaws.antt.
+// Uses: touch, bus, bits, record, numbers.  Source: [01 The journal], [01 step 6].
+use touch::write_byte;
+ghost use mathlib.Core.Path.{_≡_};
+ghost use Prim.Native.Nat.{_+_, _≤_};
+ghost use lib.ListN.{length};
+ghost use Rattle.bits.specs.Bits.{by-size};
+ghost use Rattle.bus.specs.Bus.{put-byte, put-word, put-long, put-sized};
+ghost use Rattle.touch.specs.Touch.{LogOk, Noted};
+
+// Each returns how many entries the log has then. Outside memory nothing is noted and nothing put.
+pub fn store_byte(memory: &mut [u8], log: &mut [u64], n: usize, a: u32, v: u32) -> usize
+    requires { ⌜ LogOk (now memory) (now log) n × (n + 1 ≤ length (now log)) ⌝ }
+    ensures memory { λ _. ⌜ now (memory .exit) ≡ put-byte (now (memory .entry)) a v ⌝ }
+    ensures noted { λ r. ⌜ Noted (now (memory .entry)) (now (log .entry)) n 1 (now (memory .exit)) (now (log .exit)) r ⌝ }
+{
+    let p = a % 16777216;
+    if (p as usize) < memory.len() {
+        return write_byte(memory, log, n, p, (v % 256) as u8);
+    }
+    n
+}
+
+pub fn store_word(memory: &mut [u8], log: &mut [u64], n: usize, a: u32, v: u32) -> usize
+    requires { ⌜ LogOk (now memory) (now log) n × (n + 2 ≤ length (now log)) ⌝ }
+    ensures memory { λ _. ⌜ now (memory .exit) ≡ put-word (now (memory .entry)) a v ⌝ }
+    ensures noted { λ r. ⌜ Noted (now (memory .entry)) (now (log .entry)) n 2 (now (memory .exit)) (now (log .exit)) r ⌝ }
+{
+    let m = store_byte(memory, log, n, a, v / 256);
+    store_byte(memory, log, m, std::num::wrapping_add_u32(a, 1), v)
+}
+
+pub fn store_long(memory: &mut [u8], log: &mut [u64], n: usize, a: u32, v: u32) -> usize
+    requires { ⌜ LogOk (now memory) (now log) n × (n + 4 ≤ length (now log)) ⌝ }
+    ensures memory { λ _. ⌜ now (memory .exit) ≡ put-long (now (memory .entry)) a v ⌝ }
+    ensures noted { λ r. ⌜ Noted (now (memory .entry)) (now (log .entry)) n 4 (now (memory .exit)) (now (log .exit)) r ⌝ }
+{
+    let m = store_word(memory, log, n, a, v / 65536);
+    store_word(memory, log, m, std::num::wrapping_add_u32(a, 2), v)
+}
+
+// A byte, a word or a long by the size z.
+pub fn store_sized(memory: &mut [u8], log: &mut [u64], n: usize, a: u32, z: u32, v: u32) -> usize
+    requires { ⌜ LogOk (now memory) (now log) n × (n + by-size z 1 2 4 ≤ length (now log)) ⌝ }
+    ensures memory { λ _. ⌜ now (memory .exit) ≡ put-sized (now (memory .entry)) a z v ⌝ }
+    ensures noted { λ r. ⌜ Noted (now (memory .entry)) (now (log .entry)) n (by-size z 1 2 4) (now (memory .exit)) (now (log .exit)) r ⌝ }
+{
+    if z == 0 {
+        return store_byte(memory, log, n, a, v);
+    }
+    if z == 1 {
+        return store_word(memory, log, n, a, v);
+    }
+    store_long(memory, log, n, a, v)
+}

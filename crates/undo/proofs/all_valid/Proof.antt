@@ -1,0 +1,81 @@
+-- all_valid: the test of what is left of the log is the test of all of it.
+use Prim.Native.Nat.{_-_, _≤_}
+use native.Mathlib.Omega.{arith}
+use mathlib.Core.Path.{_≡_, refl, sym, _∙_}
+use denote.Ref.{now}
+use borrow.Author.Tests.{not-true, not-false}
+use Rattle.record.specs.Change.{between, changes}
+use Rattle.undo.specs.Undo.{all-valid, valid-for}
+use Rattle.undo.proofs.ReadLaws.{between-past}
+use Rattle.undo.proofs.JudgeLaws.{valid-not, valid-next}
+use borrow.Author.Needs.{needs}
+use Rattle.undo.proofs.all_valid.Statement.{statement}
+use Rattle.undo.proofs.all_valid.Tie as tie
+
+abbrev Inv-loop : tie.InvT-loop
+Inv-loop bytes log n i₀ i = (i ≤ n) × (all-valid (valid-for bytes) (between i n log) ≡ all-valid (valid-for bytes) (changes log n))
+
+abbrev μ-loop : tie.MeasureT-loop
+μ-loop bytes log n i₀ i = n - i
+
+loop-holds : tie.Need-loop-holds Inv-loop μ-loop
+loop-holds c = (omega arith, refl)
+
+mul-e : tie.Need-mul-e Inv-loop μ-loop
+mul-e c = search needs
+
+shared-slice-read-e : tie.Need-shared-slice-read-e Inv-loop μ-loop
+shared-slice-read-e c = search needs
+
+cast-valid-for : tie.Need-cast-valid-for Inv-loop μ-loop
+cast-valid-for c = omega (arith, c .shared-slice-known2 .given (c .before .before .loop .i))
+
+cast-valid-for-2 : tie.Need-cast-valid-for-2 Inv-loop μ-loop
+cast-valid-for-2 c = search needs
+
+valid-for-requires : tie.Need-valid-for-requires Inv-loop μ-loop
+valid-for-requires c κs = search needs
+
+returns : tie.Need-returns Inv-loop μ-loop
+returns c =
+    let s = c .before .before .before .before .before .before in
+    let q = c .before .before .before .before .loop in
+    let g = c .before .valid-for in
+    sym (sym (q .inv .1) ∙ valid-not (now (s .args .log)) (q .i) (s .args .n) (c .before .before .before .loop-test .taken) (s .pre) (valid-for (s .args .bytes)) (sym (g .ensures) ∙ not-true (g .result) (c .if1 .taken)))
+
+add-i : tie.Need-add-i Inv-loop μ-loop
+add-i c = search needs
+
+loop-less : tie.Need-loop-less Inv-loop μ-loop
+loop-less c = search needs
+
+loop-again : tie.Need-loop-again Inv-loop μ-loop
+loop-again c =
+    let s = c .before .before .before .before .before .before in
+    let q = c .before .before .before .before .loop in
+    let g = c .before .valid-for in
+    (omega arith, sym (valid-next (now (s .args .log)) (q .i) (s .args .n) (c .before .before .before .loop-test .taken) (s .pre) (valid-for (s .args .bytes)) (sym (g .ensures) ∙ not-false (g .result) (c .if1 .left))) ∙ q .inv .1)
+
+returns-2 : tie.Need-returns-2 Inv-loop μ-loop
+returns-2 c =
+    let s = c .before .before .before in
+    let q = c .before .loop in
+    rw (← q .inv .1, between-past (now (s .args .log)) (q .i) (s .args .n) (q .inv .0) (c .loop-test .left))
+
+pub all-valid-spec : {M : Type 1} → statement M
+all-valid-spec =
+    tie.close
+    (tie.spec
+    Inv-loop
+    μ-loop
+    loop-holds
+    mul-e
+    shared-slice-read-e
+    cast-valid-for
+    cast-valid-for-2
+    valid-for-requires
+    returns
+    add-i
+    loop-less
+    loop-again
+    returns-2)

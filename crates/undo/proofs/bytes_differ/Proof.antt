@@ -1,0 +1,79 @@
+-- bytes_differ: the test of what is left of the log is the test of all of it.
+use Prim.Native.Nat.{_-_, _/_, _^_, _≤_}
+use native.Mathlib.Omega.{arith}
+use mathlib.Core.Path.{_≡_, refl, sym, _∙_}
+use denote.Ref.{now}
+use lib.ListN.{length, getD}
+use Rattle.record.specs.Change.{between, changes}
+use Rattle.record.proofs.ChangeLaws.{ascending-at}
+use Rattle.undo.specs.Undo.{differs}
+use Rattle.undo.proofs.ReadLaws.{between-past}
+use Rattle.undo.proofs.JudgeLaws.{differs-not, differs-next}
+use borrow.Author.Needs.{needs}
+use Rattle.undo.proofs.bytes_differ.Statement.{statement}
+use Rattle.undo.proofs.bytes_differ.Tie as tie
+
+abbrev Inv-loop : tie.InvT-loop
+Inv-loop memory log n i₀ i = (i ≤ n) × (differs memory (between i n log) ≡ differs memory (changes log n))
+
+abbrev μ-loop : tie.MeasureT-loop
+μ-loop memory log n i₀ i = n - i
+
+loop-holds : tie.Need-loop-holds Inv-loop μ-loop
+loop-holds c = (omega arith, refl)
+
+mul-e : tie.Need-mul-e Inv-loop μ-loop
+mul-e c = search needs
+
+shared-slice-read-e : tie.Need-shared-slice-read-e Inv-loop μ-loop
+shared-slice-read-e c = search needs
+
+shared-slice-read-if1 : tie.Need-shared-slice-read-if1 Inv-loop μ-loop
+shared-slice-read-if1 c =
+    let s = c .before .before .before .before in
+    let q = c .before .before .before .loop in
+    ascending-at 0 (length (now (s .args .memory))) (now (s .args .log)) (s .args .n) (q .i) (s .pre .1) (c .before .before .loop-test .taken) (omega arith)
+
+cast-if1 : tie.Need-cast-if1 Inv-loop μ-loop
+cast-if1 c = omega (arith, c .shared-slice-known2 .given (getD (now (c .before .before .before .before .args .log)) (c .before .before .before .loop .i) 0 / 2 ^ 32))
+
+returns : tie.Need-returns Inv-loop μ-loop
+returns c =
+    let s = c .before .before .before .before .before in
+    let q = c .before .before .before .before .loop in
+    sym (sym (q .inv .1) ∙ differs-not (now (s .args .log)) (q .i) (s .args .n) (c .before .before .before .loop-test .taken) (s .pre .0) (now (s .args .memory)) (c .if1 .taken))
+
+add-i : tie.Need-add-i Inv-loop μ-loop
+add-i c = search needs
+
+loop-less : tie.Need-loop-less Inv-loop μ-loop
+loop-less c = search needs
+
+loop-again : tie.Need-loop-again Inv-loop μ-loop
+loop-again c =
+    let s = c .before .before .before .before .before in
+    let q = c .before .before .before .before .loop in
+    (omega arith, sym (differs-next (now (s .args .log)) (q .i) (s .args .n) (c .before .before .before .loop-test .taken) (s .pre .0) (now (s .args .memory)) (c .if1 .left)) ∙ q .inv .1)
+
+returns-2 : tie.Need-returns-2 Inv-loop μ-loop
+returns-2 c =
+    let s = c .before .before in
+    let q = c .before .loop in
+    rw (← q .inv .1, between-past (now (s .args .log)) (q .i) (s .args .n) (q .inv .0) (c .loop-test .left))
+
+pub bytes-differ-spec : {M : Type 1} → statement M
+bytes-differ-spec =
+    tie.close
+    (tie.spec
+    Inv-loop
+    μ-loop
+    loop-holds
+    mul-e
+    shared-slice-read-e
+    shared-slice-read-if1
+    cast-if1
+    returns
+    add-i
+    loop-less
+    loop-again
+    returns-2)

@@ -1,0 +1,249 @@
+-- read_record: the two counts and the two runs, each known at its place; a law for each return.
+use Prim.Native.Nat.{ℕ, _-_, _^_, _≤_, _<_}
+use native.Mathlib.Omega.{arith}
+use mathlib.Core.Path.{_≡_}
+use mathlib.Core.List.{List, []}
+use denote.Ref.{now}
+use Rattle.record.specs.Limits.{slot-limit}
+use Rattle.record.specs.Change.{Ascending, changes}
+use Rattle.numbers.specs.Number.{back, read-number, got}
+use Rattle.undo.specs.Undo.{parsed, read-changes}
+use Rattle.undo.proofs.ReadLaws.{number-bad, number-got, run-broken, run-from, record-bad, record-many, record-bad-2, record-many-2, record-broken, record-broken-2, record-found}
+use borrow.Author.Needs.{needs}
+use Rattle.undo.proofs.read_record.Statement.{statement}
+use Rattle.undo.proofs.read_record.Tie as tie
+
+-- ---- what is known at each place that gives something, once: a need further on goes back to the place
+abbrev J : tie.Start → List ℕ
+J s = now (s .args .journal)
+
+abbrev Z : tie.Start → List ℕ
+Z s = back (J s) (s .args .mark)
+
+-- the count of bytes
+module _ (c : tie.After-nb) where
+  abbrev s₁ : tie.Start
+  s₁ = c .before .before .before .before .before .before
+
+  abbrev nb : ℕ
+  nb = c .nb .given .0 .0
+
+  abbrev p₁ : ℕ
+  p₁ = c .nb .given .0 .1 .0
+
+  g₁ : (read-number (Z s₁) ≡ got nb (back (J s₁) p₁)) × (p₁ < s₁ .args .mark) × (nb < 2 ^ 32)
+  g₁ = let t = c .before .before .read-number in number-got (J s₁) (s₁ .args .mark) (t .result) (t .ensures) nb p₁ (c .nb .given .1)
+
+-- the count of slots
+module _ (c : tie.After-ns) where
+  abbrev b₂ : tie.After-nb
+  b₂ = c .before .before .before .before .before
+
+  abbrev ns : ℕ
+  ns = c .ns .given .0 .0
+
+  abbrev p₂ : ℕ
+  p₂ = c .ns .given .0 .1 .0
+
+  g₂ : (read-number (back (J (s₁ b₂)) (p₁ b₂)) ≡ got ns (back (J (s₁ b₂)) p₂)) × (p₂ < p₁ b₂) × (ns < 2 ^ 32)
+  g₂ = let t = c .before .before .read-number2 in number-got (J (s₁ b₂)) (p₁ b₂) (t .result) (t .ensures) ns p₂ (c .ns .given .1)
+
+-- the bytes' changes
+module _ (c : tie.After-e3) where
+  abbrev b₃ : tie.After-ns
+  b₃ = c .before .before .before .before .before .before .before .before
+
+  abbrev out₃ : List ℕ
+  out₃ = c .before .before .before .before .read-changes .last .1 .1 .1 .1 .0
+
+  abbrev p₃ : ℕ
+  p₃ = c .e3 .given .0 .0
+
+  g₃ : (read-changes (nb (b₂ b₃)) (s₁ (b₂ b₃) .args .len) (back (J (s₁ (b₂ b₃))) (p₂ b₃)) [] ≡ parsed (changes out₃ (nb (b₂ b₃))) (back (J (s₁ (b₂ b₃))) p₃)) × (p₃ ≤ p₂ b₃)
+      × Ascending 0 (s₁ (b₂ b₃) .args .len) (changes out₃ (nb (b₂ b₃)))
+  g₃ =
+      let a = c .before .before .before .before .read-changes in
+      run-from (J (s₁ (b₂ b₃))) (p₂ b₃) (nb (b₂ b₃)) (s₁ (b₂ b₃) .args .len) out₃ (a .result) (a .ensures) p₃ (c .e3 .given .1)
+
+read-number-requires : tie.Need-read-number-requires
+read-number-requires c κs = search needs
+
+enum-known-nb : tie.Need-enum-known-nb
+enum-known-nb c = search needs
+
+enum-told : tie.Need-enum-told
+enum-told c = search needs
+
+returns : tie.Need-returns
+returns c =
+    let s = c .before .before .before .before .before .before in
+    let t = c .before .before .read-number in
+    record-bad (s .args .len) (Z s) (number-bad (J s) (s .args .mark) (t .result) (t .ensures) (c .enum-told .given .1))
+
+cast-if1 : tie.Need-cast-if1
+cast-if1 c = search needs
+
+returns-2 : tie.Need-returns-2
+returns-2 c =
+    let b = c .before .before in
+    let j = J (s₁ b) in
+    record-many (s₁ b .args .len) (Z (s₁ b)) (nb b) (back j (p₁ b)) (g₁ b .0) (c .if1 .taken)
+
+read-number-requires-2 : tie.Need-read-number-requires-2
+read-number-requires-2 c κs = omega (arith, g₁ (c .before .before) .1)
+
+enum-known-ns : tie.Need-enum-known-ns
+enum-known-ns c = search needs
+
+enum-told-2 : tie.Need-enum-told-2
+enum-told-2 c = search needs
+
+returns-3 : tie.Need-returns-3
+returns-3 c =
+    let b = c .before .before .before .before .before in
+    let j = J (s₁ b) in
+    let t = c .before .before .read-number2 in
+    record-bad-2 (s₁ b .args .len) (Z (s₁ b)) (nb b) (back j (p₁ b)) (g₁ b .0) (c .before .before .before .if1 .left) (number-bad j (p₁ b) (t .result) (t .ensures) (c .enum-told2 .given .1))
+
+cast-if2 : tie.Need-cast-if2
+cast-if2 c = search needs
+
+returns-4 : tie.Need-returns-4
+returns-4 c =
+    let d = c .before .before in
+    let b = b₂ d in
+    let j = J (s₁ b) in
+    let few = d .before .before .before .if1 .left in
+    record-many-2 (s₁ b .args .len) (Z (s₁ b)) (nb b) (back j (p₁ b)) (g₁ b .0) few (ns d) (back j (p₂ d)) (g₂ d .0) (c .if2 .taken)
+
+cast-read-changes : tie.Need-cast-read-changes
+cast-read-changes c = search needs
+
+read-changes-requires : tie.Need-read-changes-requires
+read-changes-requires c κs =
+    let d = c .before .before .before in
+    let b = b₂ d in
+    let j = J (s₁ b) in
+    let few = d .before .before .before .if1 .left in
+    (omega (arith, g₁ b .1, g₂ d .1), omega arith)
+
+enum-known-e3 : tie.Need-enum-known-e3
+enum-known-e3 c = search needs
+
+enum-told-3 : tie.Need-enum-told-3
+enum-told-3 c = search needs
+
+same-length : tie.Need-same-length
+same-length c = search needs
+
+returns-5 : tie.Need-returns-5
+returns-5 c =
+    let d = c .before .before .before .before .before .before .before .before in
+    let b = b₂ d in
+    let j = J (s₁ b) in
+    let few = d .before .before .before .if1 .left in
+    let a = c .before .before .before .before .read-changes in
+    record-broken (s₁ b .args .len) (Z (s₁ b)) (nb b) (back j (p₁ b)) (g₁ b .0) few (ns d) (back j (p₂ d)) (g₂ d .0) (c .before .before .before .before .before .before .if2 .left) (run-broken j (p₂ d) (nb b) (s₁ b .args .len) (a .last .1 .1 .1 .1 .0) (a .result) (a .ensures) (c .enum-told3 .given .1))
+
+cast-read-changes-2 : tie.Need-cast-read-changes-2
+cast-read-changes-2 c = search needs
+
+read-changes-requires-2 : tie.Need-read-changes-requires-2
+read-changes-requires-2 c κs =
+    let e = c .before .before in
+    let d = b₃ e in
+    let b = b₂ d in
+    let j = J (s₁ b) in
+    let few = d .before .before .before .if1 .left in
+    let few₂ = e .before .before .before .before .before .before .if2 .left in
+    (omega (arith, g₁ b .1, g₂ d .1, g₃ e .1), omega arith)
+
+enum-known-e4 : tie.Need-enum-known-e4
+enum-known-e4 c = search needs
+
+enum-told-4 : tie.Need-enum-told-4
+enum-told-4 c = search needs
+
+same-length-2 : tie.Need-same-length-2
+same-length-2 c = search needs
+
+same-length-3 : tie.Need-same-length-3
+same-length-3 c = search needs
+
+returns-6 : tie.Need-returns-6
+returns-6 c =
+    let e = c .before .before .before .before .before .before .before in
+    let d = b₃ e in
+    let b = b₂ d in
+    let j = J (s₁ b) in
+    let few = d .before .before .before .if1 .left in
+    let few₂ = e .before .before .before .before .before .before .if2 .left in
+    let a = c .before .before .before .before .read-changes2 in
+    record-broken-2 (s₁ b .args .len) (Z (s₁ b)) (nb b) (back j (p₁ b)) (g₁ b .0) few (ns d) (back j (p₂ d)) (g₂ d .0) few₂ (changes (out₃ e) (nb b)) (back j (p₃ e)) (g₃ e .0) (run-broken j (p₃ e) (ns d) slot-limit (a .last .1 .1 .1 .1 .0) (a .result) (a .ensures) (c .enum-told4 .given .1))
+
+cast-t13 : tie.Need-cast-t13
+cast-t13 c = search needs
+
+cast-t22 : tie.Need-cast-t22
+cast-t22 c = search needs
+
+same-length-4 : tie.Need-same-length-4
+same-length-4 c = search needs
+
+same-length-5 : tie.Need-same-length-5
+same-length-5 c = search needs
+
+returns-7 : tie.Need-returns-7
+returns-7 c =
+    let e = c .before .before .before .before .before .before .before .before in
+    let d = b₃ e in
+    let b = b₂ d in
+    let j = J (s₁ b) in
+    let few = d .before .before .before .if1 .left in
+    let few₂ = e .before .before .before .before .before .before .if2 .left in
+    let a = c .before .before .before .before .before .read-changes2 in
+    let y = c .before .e4 .given in
+    let out = a .last .1 .1 .1 .1 .0 in
+    let k = run-from j (p₃ e) (ns d) slot-limit out (a .result) (a .ensures) (y .0 .0) (y .1) in (
+      record-found (s₁ b .args .len) (Z (s₁ b)) (nb b) (back j (p₁ b)) (g₁ b .0) few (ns d) (back j (p₂ d)) (g₂ d .0) few₂ (changes (out₃ e) (nb b)) (back j (p₃ e)) (g₃ e .0) (changes out (ns d)) (back j (y .0 .0)) (k .0),
+      omega (arith, g₁ b .1, g₂ d .1, g₃ e .1, k .1),
+      few₂,
+      few,
+      k .2,
+      g₃ e .2,
+    )
+
+pub read-record-spec : {M : Type 1} → statement M
+read-record-spec =
+    tie.close
+    (tie.spec
+    read-number-requires
+    enum-known-nb
+    enum-told
+    returns
+    cast-if1
+    returns-2
+    read-number-requires-2
+    enum-known-ns
+    enum-told-2
+    returns-3
+    cast-if2
+    returns-4
+    cast-read-changes
+    read-changes-requires
+    enum-known-e3
+    enum-told-3
+    same-length
+    returns-5
+    cast-read-changes-2
+    read-changes-requires-2
+    enum-known-e4
+    enum-told-4
+    same-length-2
+    same-length-3
+    returns-6
+    cast-t13
+    cast-t22
+    same-length-4
+    same-length-5
+    returns-7)
