@@ -1,7 +1,7 @@
 -- Rows.antt - the operation words of the MC68000 as a table of rows, and the kind of a word: that of the row that fits, else Illegal.
 -- Laws: proofs/RowsLaws.antt (no two rows fit one word). Not here: extension words, which decide nothing of legality [01 step 4].
 -- Uses: Kinds.  Source: [003 B], each page's picture; [003 C] where a page lost it; [003 B-1] addressing categories.
-use mathlib.Core.Bool.{Bool, true, false}
+use mathlib.Core.Bool.{Bool, true, false, _||_}
 use mathlib.Core.List.{List, [], _∷_, _++_}
 use Prim.Native.Nat.{ℕ, _/_, _%_}
 use lib.Dec.{eqb, leb}
@@ -339,8 +339,12 @@ unfoldable pub kind-of : ℕ → ℕ
 unfolding kind-in rows
 kind-of op = kind-in rows (op % 65536)
 
+-- whether n is one of three [ours]
+abbrev pub of-three : ℕ → ℕ → ℕ → ℕ → Bool
+of-three n a b c = (eqb n a || eqb n b) || eqb n c
+
 -- the kinds that only supervisor state may do; MOVE from SR is not among them [003 4.4.7] [01 step 4]
 unfoldable pub privileged : ℕ → Bool
 privileged n =
-    either (eqb n k.AndIToSr) (either (eqb n k.EorIToSr) (either (eqb n k.OrIToSr) (either (eqb n k.MoveToSr)
-    (either (eqb n k.MoveToUsp) (either (eqb n k.MoveFromUsp) (either (eqb n k.Reset) (either (eqb n k.Rte) (eqb n k.Stop))))))))
+    (of-three n k.AndIToSr k.EorIToSr k.OrIToSr || of-three n k.MoveToSr k.MoveToUsp k.MoveFromUsp)
+    || of-three n k.Reset k.Rte k.Stop

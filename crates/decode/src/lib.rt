@@ -328,5 +328,7 @@ pub fn privileged(kind: u32) -> bool
     ensures { λ t. ⌜ t ≡ privileged kind ⌝ }
 {
     let immediate = (kind == kinds::AND_I_TO_SR) | (kind == kinds::EOR_I_TO_SR) | (kind == kinds::OR_I_TO_SR);
-    immediate | ((kinds::MOVE_TO_SR <= kind) & (kind <= kinds::STOP))
+    let moves = (kind == kinds::MOVE_TO_SR) | (kind == kinds::MOVE_TO_USP) | (kind == kinds::MOVE_FROM_USP);
+    let others = (kind == kinds::RESET) | (kind == kinds::RTE) | (kind == kinds::STOP);
+    immediate | moves | others
 }
