@@ -1,5 +1,5 @@
 -- ChainLaws.antt - laws of the chain of tests: the last arm of each match; on every word the chain gives the kind of the row that fits.
--- States: immediate-sized-rest, immediate-status-rest, single-rest, four-e-rest, four-even-rest, of-word-rest, of-word-as-kind-of.
+-- States: immediate-sized-rest, immediate-status-rest, single-rest, four-e-rest, four-even-rest, of-word-rest, of-word-as-kind-in, of-word-as-kind-of.
 -- Uses: Kinds, Rows, Chain, RowsLaws.  Source: [ours].
 use mathlib.Core.Path.{_≡_, refl, sym, _∙_, ap}
 use mathlib.Core.Bool.{Bool, true, false}
@@ -81,12 +81,22 @@ all-agree : all-below 1024 agrees-at ≡ true
 unfolding agrees-at all-below
 all-agree = refl
 
+agreed : (h e : ℕ) → h < 1024 → e < 64 → of-word (h * 64 + e) ≡ first-low (select rows (h / 64) (h / 8 % 8) (h % 8)) e
+unfolding agrees-at
+agreed h e p q =
+    eqb-true (of-word (h * 64 + e)) (first-low (select rows (h / 64) (h / 8 % 8) (h % 8)) e)
+    (all-below-at (agrees (select rows (h / 64) (h / 8 % 8) (h % 8)) h) 64 (all-below-at agrees-at 1024 all-agree h p) e q)
+
 pub of-word-as-kind-in : (w : ℕ) → w < 65536 → of-word w ≡ kind-in rows w
-unfolding kind-in agrees-at
+unfolding kind-in
 of-word-as-kind-in w h =
     let l : w / 64 / 64 ≡ w / 4096 = omega arith in
     let r : w / 64 / 8 % 8 ≡ w / 512 % 8 = omega arith in
     let s : w / 64 * 64 + w % 64 ≡ w = omega arith in
-    let t : agrees (select rows (w / 64 / 64) (w / 64 / 8 % 8) (w / 64 % 8)) (w / 64) (w % 64) ≡ true =
-        all-below-at _ 64 (all-below-at agrees-at 1024 all-agree (w / 64) (omega arith)) (w % 64) (omega arith) in
-    rw s at (eqb-true _ _ t) ∙ rw (l, r) (sym (first-selected rows _ _ _ _))
+    let t : of-word (w / 64 * 64 + w % 64) ≡ first-low (select rows (w / 64 / 64) (w / 64 / 8 % 8) (w / 64 % 8)) (w % 64) =
+    agreed (w / 64) (w % 64) (omega arith) (omega arith) in
+    cc (first-selected rows (w / 64 / 64) (w / 64 / 8 % 8) (w / 64 % 8) (w % 64))
+
+pub of-word-as-kind-of : (op : ℕ) → of-word (op % 65536) ≡ kind-of op
+unfolding kind-of
+of-word-as-kind-of op = of-word-as-kind-in (op % 65536) (omega arith)

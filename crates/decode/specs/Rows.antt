@@ -47,7 +47,7 @@ abbrev pub two : Span → Span → Low
 two a b = record { first = a; second = b }
 
 abbrev pub one : Span → Low
-one a = two a (to 1 0)
+one a = two a (to 64 0)
 
 -- every mode [003 B-1]
 abbrev pub every-mode : Low

@@ -11,16 +11,27 @@ pub mod kinds;
 
 // the low six bits that a class of modes allows: bit n is set where n is allowed [003 B-1]
 const EVERY: u64 = 0x1FFF_FFFF_FFFF_FFFF;
+
 const DATA: u64 = 0x1FFF_FFFF_FFFF_00FF;
+
 const DATA_NOT_IMMEDIATE: u64 = 0x0FFF_FFFF_FFFF_00FF;
+
 const DATA_ALTERABLE: u64 = 0x03FF_FFFF_FFFF_00FF;
+
 const MEMORY_ALTERABLE: u64 = 0x03FF_FFFF_FFFF_0000;
+
 const CONTROL: u64 = 0x0FFF_FF00_00FF_0000;
+
 const CONTROL_ALTERABLE_OR_PREDECREMENT: u64 = 0x03FF_FFFF_00FF_0000;
+
 const CONTROL_OR_POSTINCREMENT: u64 = 0x0FFF_FF00_FFFF_0000;
+
 const DATA_REGISTER: u64 = 0xFF;
+
 const ADDRESS_REGISTER: u64 = 0xFF00;
+
 const REGISTER_OR_PREDECREMENT: u64 = 0xFFFF;
+
 const IMMEDIATE: u64 = 0x1000_0000_0000_0000;
 
 fn choose(test: bool, x: u32, y: u32) -> u32
@@ -92,7 +103,11 @@ fn bit_or_movep(op: u32) -> u32
     let test = fit(DATA, op, kinds::BIT_DYNAMIC, kinds::ILLEGAL);
     let change = fit(DATA_ALTERABLE, op, kinds::BIT_DYNAMIC, kinds::ILLEGAL);
     let bits = choose(op / 64 % 4 == 0, test, change);
-    let movep = choose(op / 128 % 2 == 0, kinds::MOVE_P_TO_REGISTER, kinds::MOVE_P_TO_MEMORY);
+    let movep = choose(
+        op / 128 % 2 == 0,
+        kinds::MOVE_P_TO_REGISTER,
+        kinds::MOVE_P_TO_MEMORY,
+    );
     fit(ADDRESS_REGISTER, op, movep, bits)
 }
 
@@ -117,7 +132,12 @@ fn movement(op: u32, source: u64, address: u32) -> u32
     let o = op / 64 % 8;
     let absolute = choose(op / 512 % 8 < 2, kinds::MOVE, kinds::ILLEGAL);
     let to_other = choose(o == 7, absolute, kinds::MOVE);
-    fit(source, op, choose(o == 1, address, to_other), kinds::ILLEGAL)
+    fit(
+        source,
+        op,
+        choose(o == 1, address, to_other),
+        kinds::ILLEGAL,
+    )
 }
 
 // line 4: the kind of three sizes, and what size 3 stands for
@@ -125,7 +145,11 @@ fn one_operand(op: u32, sized: u32, class: u64, other: u32) -> u32
     ensures { λ k. ⌜ k ≡ one-operand op sized class other ⌝ }
 {
     let full = fit(class, op, other, kinds::ILLEGAL);
-    choose(op / 64 % 4 == 3, full, fit(DATA_ALTERABLE, op, sized, kinds::ILLEGAL))
+    choose(
+        op / 64 % 4 == 3,
+        full,
+        fit(DATA_ALTERABLE, op, sized, kinds::ILLEGAL),
+    )
 }
 
 // line 4, bits 11 to 8 are 1000
@@ -135,7 +159,12 @@ fn four_eight(op: u32) -> u32
     let o = op / 64 % 4;
     let nbcd = fit(DATA_ALTERABLE, op, kinds::NBCD, kinds::ILLEGAL);
     let pea = fit(CONTROL, op, kinds::PEA, kinds::ILLEGAL);
-    let movem = fit(CONTROL_ALTERABLE_OR_PREDECREMENT, op, kinds::MOVE_M_TO_MEMORY, kinds::ILLEGAL);
+    let movem = fit(
+        CONTROL_ALTERABLE_OR_PREDECREMENT,
+        op,
+        kinds::MOVE_M_TO_MEMORY,
+        kinds::ILLEGAL,
+    );
     let pair = choose(o == 1, pea, movem);
     let register = choose(o == 1, kinds::SWAP, kinds::EXT);
     choose(o == 0, nbcd, fit(DATA_REGISTER, op, register, pair))
@@ -180,7 +209,12 @@ fn four_fourteen(op: u32) -> u32
     let o = op / 64 % 4;
     let jumps = 2 <= o;
     if jumps {
-        return fit(CONTROL, op, choose(o == 2, kinds::JSR, kinds::JMP), kinds::ILLEGAL);
+        return fit(
+            CONTROL,
+            op,
+            choose(o == 2, kinds::JSR, kinds::JMP),
+            kinds::ILLEGAL,
+        );
     }
     let plain = o == 0;
     if plain {
@@ -200,7 +234,12 @@ fn four_even(op: u32) -> u32
         3 => one_operand(op, kinds::NOT, DATA, kinds::MOVE_TO_SR),
         4 => four_eight(op),
         5 => one_operand(op, kinds::TST, DATA_ALTERABLE, kinds::TAS),
-        6 => fit(CONTROL_OR_POSTINCREMENT, op, choose(2 <= op / 64 % 4, kinds::MOVE_M_TO_REGISTERS, kinds::ILLEGAL), kinds::ILLEGAL),
+        6 => fit(
+            CONTROL_OR_POSTINCREMENT,
+            op,
+            choose(2 <= op / 64 % 4, kinds::MOVE_M_TO_REGISTERS, kinds::ILLEGAL),
+            kinds::ILLEGAL,
+        ),
         _ => four_fourteen(op),
     }
 }
@@ -213,7 +252,12 @@ fn line_4(op: u32) -> u32
         return four_even(op);
     }
     let o = op / 64 % 4;
-    let chk = fit(DATA, op, choose(o == 2, kinds::CHK, kinds::ILLEGAL), kinds::ILLEGAL);
+    let chk = fit(
+        DATA,
+        op,
+        choose(o == 2, kinds::CHK, kinds::ILLEGAL),
+        kinds::ILLEGAL,
+    );
     choose(o == 3, fit(CONTROL, op, kinds::LEA, kinds::ILLEGAL), chk)
 }
 
@@ -225,8 +269,18 @@ fn line_5(op: u32) -> u32
     let quick = choose(adds, kinds::ADD_Q, kinds::SUB_Q);
     let address = choose(adds, kinds::ADD_Q_A, kinds::SUB_Q_A);
     let sized = choose(z == 0, kinds::ILLEGAL, address);
-    let second = fit(ADDRESS_REGISTER, op, choose(z == 3, kinds::DBCC, sized), kinds::ILLEGAL);
-    fit(DATA_ALTERABLE, op, choose(z == 3, kinds::SCC, quick), second)
+    let second = fit(
+        ADDRESS_REGISTER,
+        op,
+        choose(z == 3, kinds::DBCC, sized),
+        kinds::ILLEGAL,
+    );
+    fit(
+        DATA_ALTERABLE,
+        op,
+        choose(z == 3, kinds::SCC, quick),
+        second,
+    )
 }
 
 fn line_6(op: u32) -> u32
@@ -237,13 +291,26 @@ fn line_6(op: u32) -> u32
 }
 
 // lines 9, 11 and 13: kinds to a data register, to an address register, of the registers' own form and to memory
-fn arithmetic(op: u32, register: u32, address: u32, class: u64, own: u32, place: u64, memory: u32) -> u32
+fn arithmetic(
+    op: u32,
+    register: u32,
+    address: u32,
+    class: u64,
+    own: u32,
+    place: u64,
+    memory: u32,
+) -> u32
     ensures { λ k. ⌜ k ≡ arithmetic op register address class own place memory ⌝ }
 {
     let o = op / 64 % 8;
     let to_memory = fit(class, op, own, fit(place, op, memory, kinds::ILLEGAL));
     let byte = fit(DATA, op, register, kinds::ILLEGAL);
-    let wide = fit(EVERY, op, choose(o % 4 == 3, address, register), kinds::ILLEGAL);
+    let wide = fit(
+        EVERY,
+        op,
+        choose(o % 4 == 3, address, register),
+        kinds::ILLEGAL,
+    );
     let to_register = choose(o == 0, byte, wide);
     choose((4 <= o) & (o < 7), to_memory, to_register)
 }
@@ -255,7 +322,12 @@ fn pair_or_memory(op: u32, decimal: u32, plain: u32, address: u32, mixed: u32, m
     let z = op / 64 % 4;
     let to_memory = fit(MEMORY_ALTERABLE, op, memory, kinds::ILLEGAL);
     let wide = choose(z == 1, address, mixed);
-    let upper = fit(ADDRESS_REGISTER, op, choose(z == 0, decimal, wide), to_memory);
+    let upper = fit(
+        ADDRESS_REGISTER,
+        op,
+        choose(z == 0, decimal, wide),
+        to_memory,
+    );
     let narrow = choose(z == 1, plain, kinds::ILLEGAL);
     fit(DATA_REGISTER, op, choose(z == 0, decimal, narrow), upper)
 }
@@ -267,7 +339,11 @@ fn logical(op: u32, register: u32, unsigned: u32, signed: u32, pairs: u32) -> u3
     let o = op / 64 % 8;
     let product = choose(o == 3, unsigned, signed);
     let kind = choose(o < 3, register, product);
-    choose((4 <= o) & (o < 7), pairs, fit(DATA, op, kind, kinds::ILLEGAL))
+    choose(
+        (4 <= o) & (o < 7),
+        pairs,
+        fit(DATA, op, kind, kinds::ILLEGAL),
+    )
 }
 
 fn line_14(op: u32) -> u32
@@ -281,15 +357,35 @@ fn line_14(op: u32) -> u32
 fn line_8(op: u32) -> u32
     ensures { λ k. ⌜ k ≡ line-8 op ⌝ }
 {
-    let pairs = pair_or_memory(op, kinds::SBCD, kinds::ILLEGAL, kinds::ILLEGAL, kinds::ILLEGAL, kinds::OR_TO_MEMORY);
+    let pairs = pair_or_memory(
+        op,
+        kinds::SBCD,
+        kinds::ILLEGAL,
+        kinds::ILLEGAL,
+        kinds::ILLEGAL,
+        kinds::OR_TO_MEMORY,
+    );
     logical(op, kinds::OR_TO_REGISTER, kinds::DIV_U, kinds::DIV_S, pairs)
 }
 
 fn line_12(op: u32) -> u32
     ensures { λ k. ⌜ k ≡ line-12 op ⌝ }
 {
-    let pairs = pair_or_memory(op, kinds::ABCD, kinds::EXG_DATA, kinds::EXG_ADDRESS, kinds::EXG_BOTH, kinds::AND_TO_MEMORY);
-    logical(op, kinds::AND_TO_REGISTER, kinds::MUL_U, kinds::MUL_S, pairs)
+    let pairs = pair_or_memory(
+        op,
+        kinds::ABCD,
+        kinds::EXG_DATA,
+        kinds::EXG_ADDRESS,
+        kinds::EXG_BOTH,
+        kinds::AND_TO_MEMORY,
+    );
+    logical(
+        op,
+        kinds::AND_TO_REGISTER,
+        kinds::MUL_U,
+        kinds::MUL_S,
+        pairs,
+    )
 }
 
 // the kind of a word of sixteen bits, by its line
@@ -306,11 +402,35 @@ fn of_word(op: u32) -> u32
         6 => line_6(op),
         7 => choose(op / 256 % 2 == 0, kinds::MOVE_Q, kinds::ILLEGAL),
         8 => line_8(op),
-        9 => arithmetic(op, kinds::SUB_TO_REGISTER, kinds::SUB_A, REGISTER_OR_PREDECREMENT, kinds::SUB_X, MEMORY_ALTERABLE, kinds::SUB_TO_MEMORY),
+        9 => arithmetic(
+            op,
+            kinds::SUB_TO_REGISTER,
+            kinds::SUB_A,
+            REGISTER_OR_PREDECREMENT,
+            kinds::SUB_X,
+            MEMORY_ALTERABLE,
+            kinds::SUB_TO_MEMORY,
+        ),
         10 => kinds::LINE_A,
-        11 => arithmetic(op, kinds::CMP, kinds::CMP_A, ADDRESS_REGISTER, kinds::CMP_M, DATA_ALTERABLE, kinds::EOR),
+        11 => arithmetic(
+            op,
+            kinds::CMP,
+            kinds::CMP_A,
+            ADDRESS_REGISTER,
+            kinds::CMP_M,
+            DATA_ALTERABLE,
+            kinds::EOR,
+        ),
         12 => line_12(op),
-        13 => arithmetic(op, kinds::ADD_TO_REGISTER, kinds::ADD_A, REGISTER_OR_PREDECREMENT, kinds::ADD_X, MEMORY_ALTERABLE, kinds::ADD_TO_MEMORY),
+        13 => arithmetic(
+            op,
+            kinds::ADD_TO_REGISTER,
+            kinds::ADD_A,
+            REGISTER_OR_PREDECREMENT,
+            kinds::ADD_X,
+            MEMORY_ALTERABLE,
+            kinds::ADD_TO_MEMORY,
+        ),
         14 => line_14(op),
         _ => kinds::LINE_F,
     }
@@ -327,8 +447,12 @@ pub fn kind_of(op: u32) -> u32
 pub fn privileged(kind: u32) -> bool
     ensures { λ t. ⌜ t ≡ privileged kind ⌝ }
 {
-    let immediate = (kind == kinds::AND_I_TO_SR) | (kind == kinds::EOR_I_TO_SR) | (kind == kinds::OR_I_TO_SR);
-    let moves = (kind == kinds::MOVE_TO_SR) | (kind == kinds::MOVE_TO_USP) | (kind == kinds::MOVE_FROM_USP);
+    let immediate = (kind == kinds::AND_I_TO_SR)
+        | (kind == kinds::EOR_I_TO_SR)
+        | (kind == kinds::OR_I_TO_SR);
+    let moves = (kind == kinds::MOVE_TO_SR)
+        | (kind == kinds::MOVE_TO_USP)
+        | (kind == kinds::MOVE_FROM_USP);
     let others = (kind == kinds::RESET) | (kind == kinds::RTE) | (kind == kinds::STOP);
     immediate | moves | others
 }

@@ -5,7 +5,6 @@ ghost use Prim.Native.Nat.{_<_, _≤_};
 
 mod names;
 
-
 // a digit of base 16, in lower case
 fn digit(n: u32) -> u8 {
     let x = n % 16;

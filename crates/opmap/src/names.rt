@@ -5,6 +5,7 @@ use decode::kinds;
 
 // stems that no kind has: BTST BCHG BCLR BSET, then ASR ASL LSR LSL ROXR ROXL ROR ROL
 const BIT_TEST: u32 = 100;
+
 const SHIFT: u32 = 104;
 
 // the kind whose name also stands for this kind
@@ -47,7 +48,10 @@ fn move_size(op: u32) -> u32 {
 fn ending(op: u32) -> u32 {
     match namesake(decode::kind_of(op)) {
         kinds::MOVE | kinds::MOVE_A => move_size(op),
-        kinds::MOVE_M_TO_MEMORY | kinds::MOVE_M_TO_REGISTERS | kinds::MOVE_P_TO_REGISTER | kinds::EXT => 2 + op / 64 % 2,
+        kinds::MOVE_M_TO_MEMORY
+        | kinds::MOVE_M_TO_REGISTERS
+        | kinds::MOVE_P_TO_REGISTER
+        | kinds::EXT => 2 + op / 64 % 2,
         kinds::ADD_A | kinds::SUB_A | kinds::CMP_A => 2 + op / 256 % 2,
         kinds::SHIFT_MEMORY => 2,
         kinds::BCC | kinds::DBCC | kinds::SCC => 4 + op / 256 % 16,
@@ -55,7 +59,12 @@ fn ending(op: u32) -> u32 {
         kinds::SUB_TO_REGISTER | kinds::SUB_I | kinds::SUB_Q | kinds::SUB_X => 1 + op / 64 % 4,
         kinds::NEG | kinds::NEG_X | kinds::CLR | kinds::TST | kinds::NOT => 1 + op / 64 % 4,
         kinds::CMP | kinds::CMP_I | kinds::CMP_M | kinds::SHIFT_REGISTER => 1 + op / 64 % 4,
-        kinds::AND_TO_REGISTER | kinds::AND_I | kinds::OR_TO_REGISTER | kinds::OR_I | kinds::EOR | kinds::EOR_I => 1 + op / 64 % 4,
+        kinds::AND_TO_REGISTER
+        | kinds::AND_I
+        | kinds::OR_TO_REGISTER
+        | kinds::OR_I
+        | kinds::EOR
+        | kinds::EOR_I => 1 + op / 64 % 4,
         _ => 0,
     }
 }

@@ -3,64 +3,40 @@ use Rattle.decode.specs.Chain.{four-e}
 use borrow.Author.Needs.{needs}
 use Rattle.decode.proofs.four_e.Statement.{statement}
 use Rattle.decode.proofs.four_e.Tie as tie
-use Rattle.decode.proofs.four_e.Reads as reads
-use Rattle.decode.proofs.four_e.Lts as lts
-use Rattle.decode.proofs.single.Reads as single-reads
 
--- src/lib.rt:171:14
-single-requires : tie.Need-single-requires
-single-requires c κs = search needs
-
--- src/lib.rt:161:1
 returns : tie.Need-returns
 unfolding four-e
 returns c = rw (c .match .keys1)
 
--- src/lib.rt:161:1
 returns-2 : tie.Need-returns-2
 unfolding four-e
 returns-2 c = rw (c .match .keys2)
 
--- src/lib.rt:161:1
 returns-3 : tie.Need-returns-3
 unfolding four-e
 returns-3 c = rw (c .match .keys3)
 
--- src/lib.rt:161:1
 returns-4 : tie.Need-returns-4
 unfolding four-e
 returns-4 c = rw (c .match .keys4)
 
--- src/lib.rt:161:1
 returns-5 : tie.Need-returns-5
 unfolding four-e
 returns-5 c = rw (c .match .keys5)
 
--- src/lib.rt:161:1
 returns-6 : tie.Need-returns-6
 unfolding four-e
 returns-6 c = rw (c .match .keys6)
 
--- src/lib.rt:161:1
 returns-7 : tie.Need-returns-7
 unfolding four-e
 returns-7 c = rw (c .before .match .keys7) (c .single .ensures)
 
--- src/lib.rt:161:1
 returns-8 : tie.Need-returns-8
 unfolding four-e
 returns-8 c = search four-e-rest
 
 pub four-e-spec : {M : Type 1} → statement M
 four-e-spec =
-    tie.close
-    (tie.spec
-    single-requires
-    returns
-    returns-2
-    returns-3
-    returns-4
-    returns-5
-    returns-6
-    returns-7
-    returns-8)
+    tie.close (tie.spec
+    (λ c κs. search needs) returns returns-2 returns-3 returns-4 returns-5 returns-6 returns-7 returns-8)

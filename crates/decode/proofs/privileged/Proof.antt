@@ -8,4 +8,6 @@ unfolding privileged
 returns c = search needs
 
 pub privileged-spec : {M : Type 1} → statement M
-privileged-spec = tie.close (tie.spec returns)
+privileged-spec =
+    tie.close (tie.spec
+    returns)
