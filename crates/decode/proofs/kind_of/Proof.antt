@@ -1,3 +1,4 @@
+use mathlib.Core.Path.{_∙_}
 use Rattle.decode.proofs.ChainLaws.{of-word-as-kind-of}
 use borrow.Author.Needs.{needs}
 use Rattle.decode.proofs.kind_of.Statement.{statement}
