@@ -1,4 +1,4 @@
-use Rattle.decode.proofs.ChainLaws.{four-even-rest}
+use Rattle.decode.proofs.ChainLaws.{four-even-movem, four-even-rest}
 use Rattle.decode.specs.Chain.{four-even}
 use borrow.Author.Needs.{needs}
 use Rattle.decode.proofs.four_even.Statement.{statement}
@@ -29,8 +29,7 @@ unfolding four-even
 returns-6 c = rw (c .before .match .keys6) (c .one-operand5 .ensures)
 
 returns-7 : tie.Need-returns-7
-unfolding four-even
-returns-7 c = rw (c .before .before .match .keys7) (cc)
+returns-7 c = search four-even-movem
 
 returns-8 : tie.Need-returns-8
 unfolding four-even

@@ -1,11 +1,11 @@
+use Rattle.decode.proofs.ChainLaws.{four-fourteen-jumps}
 use Rattle.decode.specs.Chain.{four-fourteen}
 use borrow.Author.Needs.{needs}
 use Rattle.decode.proofs.four_fourteen.Statement.{statement}
 use Rattle.decode.proofs.four_fourteen.Tie as tie
 
 returns : tie.Need-returns
-unfolding four-fourteen
-returns c = rw (c .before .before .if1 .taken) (cc)
+returns c = search four-fourteen-jumps
 
 returns-2 : tie.Need-returns-2
 unfolding four-fourteen

@@ -1,5 +1,5 @@
 use mathlib.Core.Path.{_∙_}
-use Rattle.decode.proofs.ChainLaws.{of-word-as-kind-of}
+use Rattle.decode.proofs.AgreementLaws.{of-word-as-kind-of}
 use borrow.Author.Needs.{needs}
 use Rattle.decode.proofs.kind_of.Statement.{statement}
 use Rattle.decode.proofs.kind_of.Tie as tie

@@ -1,3 +1,4 @@
+use Rattle.decode.proofs.ChainLaws.{line-4-odd}
 use Rattle.decode.specs.Chain.{line-4}
 use borrow.Author.Needs.{needs}
 use Rattle.decode.proofs.line_4.Statement.{statement}
@@ -8,8 +9,7 @@ unfolding line-4
 returns c = rw (c .before .if1 .taken) (c .four-even .ensures)
 
 returns-2 : tie.Need-returns-2
-unfolding line-4
-returns-2 c = rw (c .before .before .before .before .if1 .left) (cc)
+returns-2 c = search line-4-odd
 
 pub line-4-spec : {M : Type 1} → statement M
 line-4-spec =
