@@ -1,0 +1,10 @@
+use Rattle.control.proofs.ControlLaws.{branch-subroutine-plan, branch-subroutine-registers}
+use borrow.Author.Needs.{needs}
+use Rattle.control.proofs.branch_subroutine.Statement.{statement}
+use Rattle.control.proofs.branch_subroutine.Tie as tie
+
+pub branch-subroutine-spec : {M : Type 1} → statement M
+branch-subroutine-spec =
+    tie.close (tie.spec
+    (λ c κs. search needs) (λ c κs. search needs) (λ c κs. search needs) (λ c κs. search needs)
+    (λ c. (search branch-subroutine-plan, search branch-subroutine-registers)))

@@ -1,0 +1,153 @@
+// lib.rt - program control: Bcc, BRA, BSR, DBcc, Scc, JMP, JSR, NOP, RTR, RTS.
+// Means: specs/Control.antt.  Laws: proofs/ControlLaws.antt.
+// Uses: bits, flags, bus, operand, plan.  Source: [003 3.8], [003 B], [01 step 6], [01 Operands], [01 Easy slips].
+ghost use mathlib.Core.Path.{_≡_};
+ghost use Prim.Native.Nat.{ℕ, _+_, _*_, _%_, _/_, _<_, _≤_};
+ghost use Rattle.bus.specs.Bus.{view-of};
+ghost use Rattle.plan.specs.Plans.{nothing};
+ghost use Rattle.control.specs.Control.{displacement, jump-when, counted, branch-plan, branch-subroutine, decrement-branch, set-condition, jump-plan, jump-subroutine, return-restore, return-subroutine};
+use bus::Fetched;
+use bus::Flow;
+use flags::Flagged;
+use plan::Plan;
+
+// The displacement of a branch: the operation word's byte, $FF too; the next word where that is 0.
+fn displacement(mem: &[u8], op: u32, f: Flow) -> Fetched
+    ensures { λ w. ⌜ w ≡ displacement (view-of (now (mem .entry))) op f ⌝ }
+{
+    let none = op % 256 == 0;
+    if none {
+        let w = bus::next_word(mem, f);
+        let g = w.f;
+        return Fetched {
+            v: bits::sign_word(w.v),
+            f: g,
+        };
+    }
+    Fetched {
+        v: bits::sign_byte(op),
+        f,
+    }
+}
+
+fn jump_when(taken: bool, f: Flow, to: u32) -> Plan
+    ensures { λ p. ⌜ p ≡ jump-when taken f to ⌝ }
+{
+    if taken {
+        return plan::nothing(plan::jump(f, to));
+    }
+    plan::nothing(f)
+}
+
+// Bcc and BRA.
+pub fn branch(mem: &[u8], op: u32, f: Flow) -> Plan
+    ensures { λ p. ⌜ p ≡ branch-plan (view-of (now (mem .entry))) op f ⌝ }
+{
+    let w = displacement(mem, op, f);
+    let g = w.f;
+    let taken = flags::condition(f.sr, op / 256);
+    jump_when(taken, g, std::num::wrapping_add_u32(f.pc, w.v))
+}
+
+// BSR.
+pub fn branch_subroutine(r: &mut [u32; 17], mem: &[u8], op: u32, f: Flow) -> Plan
+    ensures { λ p. ⌜ p ≡ branch-subroutine (now (r .entry)) (view-of (now (mem .entry))) op f .p ⌝ }
+    ensures { λ p. ⌜ now (r .exit) ≡ branch-subroutine (now (r .entry)) (view-of (now (mem .entry))) op f .r ⌝ }
+{
+    let w = displacement(mem, op, f);
+    let g = w.f;
+    let h = plan::jump(g, std::num::wrapping_add_u32(f.pc, w.v));
+    plan::push(r, g.pc, h)
+}
+
+// The counter of DBcc less 1: a word, and no more than a word of the register changes.
+fn counted(r: &[u32; 17], n: u32) -> u32
+    ensures { λ c. ⌜ c ≡ counted (now (r .entry)) n ⌝ }
+{
+    bits::cut(bits::minus(operand::get(r, n), 1) as u64, 1)
+}
+
+// DBcc.
+pub fn decrement_branch(r: &mut [u32; 17], mem: &[u8], op: u32, f: Flow) -> Plan
+    ensures { λ p. ⌜ p ≡ decrement-branch (now (r .entry)) (view-of (now (mem .entry))) op f .p ⌝ }
+    ensures { λ p. ⌜ now (r .exit) ≡ decrement-branch (now (r .entry)) (view-of (now (mem .entry))) op f .r ⌝ }
+{
+    let w = bus::next_word(mem, f);
+    let g = w.f;
+    let ended = flags::condition(f.sr, op / 256);
+    if ended {
+        return plan::nothing(g);
+    }
+    let c = counted(r, op % 8);
+    operand::put_low(r, op % 8, 1, c);
+    let spent = c == 65535;
+    jump_when(
+        !spent,
+        g,
+        std::num::wrapping_add_u32(f.pc, bits::sign_word(w.v)),
+    )
+}
+
+// Scc. The flags stay as they are.
+pub fn set_condition(r: &mut [u32; 17], mem: &[u8], op: u32, f: Flow) -> Plan
+    ensures { λ p. ⌜ p ≡ set-condition (now (r .entry)) (view-of (now (mem .entry))) op f .p ⌝ }
+    ensures { λ p. ⌜ now (r .exit) ≡ set-condition (now (r .entry)) (view-of (now (mem .entry))) op f .r ⌝ }
+{
+    let b = operand::modify(r, mem, op / 8 % 8, op % 8, 0, f);
+    let q = b.q;
+    let holds = flags::condition(f.sr, op / 256);
+    let a = Flagged {
+        v: bits::bit(holds) * 255,
+        c: f.sr,
+    };
+    plan::finish(r, q, 0, a)
+}
+
+// JMP.
+pub fn jump_to(r: &[u32; 17], mem: &[u8], op: u32, f: Flow) -> Plan
+    ensures { λ p. ⌜ p ≡ jump-plan (now (r .entry)) (view-of (now (mem .entry))) op f ⌝ }
+{
+    let q = operand::locate(r, mem, op / 8 % 8, op % 8, 2, f);
+    let g = q.f;
+    plan::nothing(plan::jump(g, q.at))
+}
+
+// JSR. The address is formed before A7 falls.
+pub fn jump_subroutine(r: &mut [u32; 17], mem: &[u8], op: u32, f: Flow) -> Plan
+    ensures { λ p. ⌜ p ≡ jump-subroutine (now (r .entry)) (view-of (now (mem .entry))) op f .p ⌝ }
+    ensures { λ p. ⌜ now (r .exit) ≡ jump-subroutine (now (r .entry)) (view-of (now (mem .entry))) op f .r ⌝ }
+{
+    let q = operand::locate(r, mem, op / 8 % 8, op % 8, 2, f);
+    let g = q.f;
+    let h = plan::jump(g, q.at);
+    plan::push(r, g.pc, h)
+}
+
+// NOP.
+pub fn no_operation(f: Flow) -> Plan
+    ensures { λ p. ⌜ p ≡ nothing f ⌝ }
+{
+    plan::nothing(f)
+}
+
+// RTR. Of the word only the flags are taken.
+pub fn return_restore(r: &mut [u32; 17], mem: &[u8], op: u32, f: Flow) -> Plan
+    ensures { λ p. ⌜ p ≡ return-restore (now (r .entry)) (view-of (now (mem .entry))) op f .p ⌝ }
+    ensures { λ p. ⌜ now (r .exit) ≡ return-restore (now (r .entry)) (view-of (now (mem .entry))) op f .r ⌝ }
+{
+    let c = operand::source(r, mem, 3, 7, 1, f);
+    let g = c.f;
+    let t = operand::source(r, mem, 3, 7, 2, g);
+    let h = t.f;
+    plan::nothing(plan::jump(plan::flagged(h, c.v), t.v))
+}
+
+// RTS.
+pub fn return_subroutine(r: &mut [u32; 17], mem: &[u8], op: u32, f: Flow) -> Plan
+    ensures { λ p. ⌜ p ≡ return-subroutine (now (r .entry)) (view-of (now (mem .entry))) op f .p ⌝ }
+    ensures { λ p. ⌜ now (r .exit) ≡ return-subroutine (now (r .entry)) (view-of (now (mem .entry))) op f .r ⌝ }
+{
+    let t = operand::source(r, mem, 3, 7, 2, f);
+    let g = t.f;
+    plan::nothing(plan::jump(g, t.v))
+}

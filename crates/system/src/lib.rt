@@ -1,0 +1,165 @@
+// lib.rt - system control: immediates and moves to and from SR, CCR and USP, RESET, RTE, STOP, TRAP, TRAPV, CHK.
+// Means: specs/System.antt.  Laws: proofs/SystemLaws.antt.
+// Uses: bits, flags, alu, bus, operand, plan.  Source: [003 3.9], [003 B], [01 step 2] to [01 step 7]. Privilege is the caller's.
+ghost use mathlib.Core.Path.{_≡_};
+ghost use Prim.Native.Nat.{ℕ, _+_, _*_, _%_, _/_, _<_, _≤_};
+ghost use Rattle.bus.specs.Bus.{view-of};
+ghost use Rattle.operand.specs.Operands.{get, put, address};
+ghost use Rattle.plan.specs.Plans.{nothing};
+ghost use Rattle.system.specs.System.{logic, status, immediate-to-ccr-plan, immediate-to-sr-plan, move-from-sr, move-to-ccr, move-to-sr, return-exception, stop-plan, trap-plan, trap-overflow-plan, check-bounds};
+use bus::Flow;
+use flags::Flagged;
+use plan::Plan;
+
+// AND, OR and EOR, as 0, 1 and 2.
+fn logic(which: u32, a: u32, b: u32) -> u32
+    ensures { λ r. ⌜ r ≡ logic which a b ⌝ }
+{
+    match which {
+        0 => a & b,
+        1 => a | b,
+        _ => a ^ b,
+    }
+}
+
+// The flow with another status register, of which only the bits that there are count.
+fn status(f: Flow, sr: u32) -> Flow
+    ensures { λ g. ⌜ g ≡ status f sr ⌝ }
+{
+    bus::with_sr(f, flags::sr_bits(sr))
+}
+
+// ANDI, ORI, EORI to CCR.
+pub fn immediate_to_ccr(which: u32, mem: &[u8], f: Flow) -> Plan
+    ensures { λ p. ⌜ p ≡ immediate-to-ccr-plan which (view-of (now (mem .entry))) f ⌝ }
+{
+    let w = bus::next_word(mem, f);
+    let g = w.f;
+    plan::nothing(plan::flagged(g, logic(which, f.sr, w.v)))
+}
+
+// ANDI, ORI, EORI to SR.
+pub fn immediate_to_sr(which: u32, mem: &[u8], f: Flow) -> Plan
+    ensures { λ p. ⌜ p ≡ immediate-to-sr-plan which (view-of (now (mem .entry))) f ⌝ }
+{
+    let w = bus::next_word(mem, f);
+    let g = w.f;
+    plan::nothing(status(g, logic(which, f.sr, w.v)))
+}
+
+// MOVE from SR. The flags stay as they are.
+pub fn move_from_sr(r: &mut [u32; 17], mem: &[u8], op: u32, f: Flow) -> Plan
+    ensures { λ p. ⌜ p ≡ move-from-sr (now (r .entry)) (view-of (now (mem .entry))) op f .p ⌝ }
+    ensures { λ p. ⌜ now (r .exit) ≡ move-from-sr (now (r .entry)) (view-of (now (mem .entry))) op f .r ⌝ }
+{
+    let b = operand::modify(r, mem, op / 8 % 8, op % 8, 1, f);
+    let q = b.q;
+    let a = Flagged { v: f.sr, c: f.sr };
+    plan::finish(r, q, 1, a)
+}
+
+// MOVE to CCR.
+pub fn move_to_ccr(r: &mut [u32; 17], mem: &[u8], op: u32, f: Flow) -> Plan
+    ensures { λ p. ⌜ p ≡ move-to-ccr (now (r .entry)) (view-of (now (mem .entry))) op f .p ⌝ }
+    ensures { λ p. ⌜ now (r .exit) ≡ move-to-ccr (now (r .entry)) (view-of (now (mem .entry))) op f .r ⌝ }
+{
+    let w = operand::source(r, mem, op / 8 % 8, op % 8, 1, f);
+    let g = w.f;
+    plan::nothing(plan::flagged(g, w.v))
+}
+
+// MOVE to SR.
+pub fn move_to_sr(r: &mut [u32; 17], mem: &[u8], op: u32, f: Flow) -> Plan
+    ensures { λ p. ⌜ p ≡ move-to-sr (now (r .entry)) (view-of (now (mem .entry))) op f .p ⌝ }
+    ensures { λ p. ⌜ now (r .exit) ≡ move-to-sr (now (r .entry)) (view-of (now (mem .entry))) op f .r ⌝ }
+{
+    let w = operand::source(r, mem, op / 8 % 8, op % 8, 1, f);
+    let g = w.f;
+    plan::nothing(status(g, w.v))
+}
+
+// MOVE An,USP.
+pub fn move_to_usp(r: &mut [u32; 17], op: u32, f: Flow) -> Plan
+    ensures { λ p. ⌜ p ≡ nothing f ⌝ }
+    ensures { λ p. ⌜ now (r .exit) ≡ put (now (r .entry)) 16 (address (now (r .entry)) op) ⌝ }
+{
+    let a = operand::get(r, 8 + op % 8);
+    operand::put(r, 16, a);
+    plan::nothing(f)
+}
+
+// MOVE USP,An.
+pub fn move_from_usp(r: &mut [u32; 17], op: u32, f: Flow) -> Plan
+    ensures { λ p. ⌜ p ≡ nothing f ⌝ }
+    ensures { λ p. ⌜ now (r .exit) ≡ put (now (r .entry)) (8 + op % 8) (get (now (r .entry)) 16) ⌝ }
+{
+    let a = operand::get(r, 16);
+    operand::put(r, 8 + op % 8, a);
+    plan::nothing(f)
+}
+
+// RESET. There are no devices.
+pub fn reset_devices(f: Flow) -> Plan
+    ensures { λ p. ⌜ p ≡ nothing f ⌝ }
+{
+    plan::nothing(f)
+}
+
+// RTE.
+pub fn return_exception(r: &mut [u32; 17], mem: &[u8], op: u32, f: Flow) -> Plan
+    ensures { λ p. ⌜ p ≡ return-exception (now (r .entry)) (view-of (now (mem .entry))) op f .p ⌝ }
+    ensures { λ p. ⌜ now (r .exit) ≡ return-exception (now (r .entry)) (view-of (now (mem .entry))) op f .r ⌝ }
+{
+    let s = operand::source(r, mem, 3, 7, 1, f);
+    let g = s.f;
+    let t = operand::source(r, mem, 3, 7, 2, g);
+    let h = t.f;
+    plan::nothing(plan::jump(status(h, s.v), t.v))
+}
+
+// STOP. A word with S clear is refused, once it is read.
+pub fn stop(mem: &[u8], f: Flow) -> Plan
+    ensures { λ p. ⌜ p ≡ stop-plan (view-of (now (mem .entry))) f ⌝ }
+{
+    let w = bus::next_word(mem, f);
+    let g = w.f;
+    let supervisor = w.v / 8192 % 2 == 1;
+    if supervisor {
+        return plan::stopping(status(g, w.v));
+    }
+    plan::refusing(8, bits::minus(f.pc, 2), g)
+}
+
+// TRAP.
+pub fn trap(op: u32, f: Flow) -> Plan
+    ensures { λ p. ⌜ p ≡ trap-plan op f ⌝ }
+{
+    plan::trapping(32 + op % 16, f)
+}
+
+// TRAPV.
+pub fn trap_overflow(f: Flow) -> Plan
+    ensures { λ p. ⌜ p ≡ trap-overflow-plan f ⌝ }
+{
+    let over = flags::v_of(f.sr);
+    if over {
+        return plan::trapping(7, f);
+    }
+    plan::nothing(f)
+}
+
+// CHK.
+pub fn check_bounds(r: &mut [u32; 17], mem: &[u8], op: u32, f: Flow) -> Plan
+    ensures { λ p. ⌜ p ≡ check-bounds (now (r .entry)) (view-of (now (mem .entry))) op f .p ⌝ }
+    ensures { λ p. ⌜ now (r .exit) ≡ check-bounds (now (r .entry)) (view-of (now (mem .entry))) op f .r ⌝ }
+{
+    let w = operand::source(r, mem, op / 8 % 8, op % 8, 1, f);
+    let g = w.f;
+    let a = alu::check(operand::get(r, op / 512 % 8), w.v, f.sr);
+    let h = plan::flagged(g, a.c);
+    let outside = a.v == 1;
+    if outside {
+        return plan::trapping(6, h);
+    }
+    plan::nothing(h)
+}
