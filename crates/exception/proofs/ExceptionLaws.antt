@@ -1,0 +1,123 @@
+-- ExceptionLaws.antt - one law for each return of the functions of exception.
+-- small-room-is, small-frame-is, enter-is, exception-written (slots, memory, event), exception-halts, and the same of faults.
+-- Uses: bits, bus, touch, bank.
+use Prim.Native.Nat.{ℕ, _+_, _*_, _%_, _/_, _<_, _^_, _≤_}
+use native.Mathlib.Omega.{arith}
+use mathlib.Core.Path.{_≡_}
+use mathlib.Core.Bool.{Bool, true, false}
+use mathlib.Core.List.{List}
+use lib.ListN.{getD, set, length}
+use lib.Dec.{eqb}
+use Rattle.bits.specs.Bits.{plus, minus}
+use Rattle.bank.specs.Bank.{long, ssp-of, pc-of, sr-of}
+use Rattle.bus.specs.declared.Flow.{Flow}
+use Rattle.bus.specs.declared.Fetched.{Fetched}
+use Rattle.bus.specs.Bus.{View, view-of, read-long, room, put-word, put-long}
+use Rattle.touch.specs.Touch.{LogOk, Noted}
+use Rattle.touch.proofs.TouchLaws.{noted-none, noted-then}
+use Rattle.exception.specs.Exceptions.{Stepped, fresh, supervisor-sr, halted, small-room, small-frame, big-room, fault-access, fault-rest, big-frame, enter, exception, fault-taken, fault}
+
+module _ (v : View) (a : ℕ) where
+  pub small-room-is : (e g h : Flow) (b : ℕ) → e ≡ fresh 0 0 → g ≡ room v a 1 e → b ≡ plus a 2 → h ≡ room v b 2 g → eqb (h .bad) 0 ≡ small-room v a
+  unfolding small-room
+  small-room-is e g h b e0 e1 e2 e3 = cc
+
+  pub big-room-is : (e g h i j : Flow) (b c d : ℕ) → e ≡ fresh 0 0 → g ≡ room v a 2 e → b ≡ plus a 4 → h ≡ room v b 2 g → c ≡ plus a 8 → i ≡ room v c 2 h → d ≡ plus a 12 → j ≡ room v d 1 i → eqb (j .bad) 0 ≡ big-room v a
+  unfolding big-room
+  big-room-is e g h i j b c d e0 e1 e2 e3 e4 e5 e6 e7 = cc
+
+module _ (m : List ℕ) (a sr pc : ℕ) where
+  pub small-frame-is : (n o : List ℕ) (b : ℕ) → n ≡ put-word m a sr → b ≡ plus a 2 → o ≡ put-long n b pc → o ≡ small-frame m a sr pc
+  unfolding small-frame
+  small-frame-is n o b e1 e2 e3 = cc
+
+  pub fault-rest-is : (n o : List ℕ) (op b : ℕ) → n ≡ put-word m a op → b ≡ plus a 2 → o ≡ small-frame n b sr pc → o ≡ fault-rest m a op sr pc
+  unfolding fault-rest
+  fault-rest-is n o op b e1 e2 e3 = cc
+
+  pub big-frame-is : (n o : List ℕ) (bad op b : ℕ) → n ≡ fault-access m a bad → b ≡ plus a 6 → o ≡ fault-rest n b op sr pc → o ≡ big-frame m a bad op sr pc
+  unfolding big-frame
+  big-frame-is n o bad op b e1 e2 e3 = cc
+
+pub fault-access-is : (m n o : List ℕ) (a bad b : ℕ) → n ≡ put-word m a (bad / 4 % 64) → b ≡ plus a 2 → o ≡ put-long n b (bad / 256) → o ≡ fault-access m a bad
+unfolding fault-access
+fault-access-is m n o a bad b e1 e2 e3 = cc
+
+-- the vector's long fits, as every slot does
+pub enter-is : (s : List ℕ) (v : View) (a vec sr : ℕ) (e : Flow) (w : Fetched) → e ≡ fresh 0 0 → w ≡ read-long v (vec % 256 * 4) 17 e → w .v < 2 ^ 32 → set (set (set (set s 16 a) 17 (w .v)) 18 sr) 19 0 ≡ enter s v a vec sr
+unfolding enter
+enter-is s v a vec sr e w e1 e2 h = let l : w .v ≡ long (w .v) = omega arith in cc
+
+-- an exception: b says whether its frame can be written
+module _ (s m : List ℕ) (vec sr a : ℕ) (b : Bool) (e1 : a ≡ minus (ssp-of s) 6) (e2 : b ≡ small-room (view-of m) a) where
+  module _ (y : b ≡ true) (n : List ℕ) (e3 : n ≡ small-frame m a (sr-of s) (pc-of s)) where
+    pub exception-slots : (t : List ℕ) → t ≡ enter s (view-of n) a vec sr → t ≡ exception s m vec sr .s
+    unfolding exception
+    exception-slots t e = cc
+
+    pub exception-memory : n ≡ exception s m vec sr .m
+    unfolding exception
+    exception-memory = cc
+
+    pub exception-event : vec % 256 + 1 ≡ exception s m vec sr .event
+    unfolding exception
+    exception-event = cc
+
+  module _ (y : b ≡ false) where
+    pub exception-halts-slots : set s 19 2 ≡ exception s m vec sr .s
+    unfolding exception
+    exception-halts-slots = cc
+
+    pub exception-halts-memory : m ≡ exception s m vec sr .m
+    unfolding exception
+    exception-halts-memory = cc
+
+    pub exception-halts-event : 257 ≡ exception s m vec sr .event
+    unfolding exception
+    exception-halts-event = cc
+
+-- a fault whose frame can be written
+module _ (s m n : List ℕ) (a bad op pc : ℕ) (e : n ≡ big-frame m a bad op (sr-of s) pc) where
+  pub fault-taken-slots : (t : List ℕ) (sr : ℕ) → sr ≡ supervisor-sr (sr-of s) → t ≡ enter s (view-of n) a (bad % 4) sr → t ≡ fault-taken s m a bad op pc .s
+  unfolding fault-taken
+  fault-taken-slots t sr d h = cc
+
+  pub fault-taken-memory : n ≡ fault-taken s m a bad op pc .m
+  unfolding fault-taken
+  fault-taken-memory = cc
+
+pub fault-taken-event : (s m : List ℕ) (a bad op pc : ℕ) → bad % 4 + 1 ≡ fault-taken s m a bad op pc .event
+unfolding fault-taken
+fault-taken-event s m a bad op pc = cc
+
+-- a fault: b says whether its frame can be written
+module _ (s m : List ℕ) (bad op a pc : ℕ) (b : Bool) (e0 : pc ≡ plus (pc-of s) 2) (e1 : a ≡ minus (ssp-of s) 14) (e2 : b ≡ big-room (view-of m) a) where
+  module _ (y : b ≡ true) where
+    pub fault-slots : (t : List ℕ) → t ≡ fault-taken s m a bad op pc .s → t ≡ fault s m bad op .s
+    unfolding fault
+    fault-slots t e = cc
+
+    pub fault-memory : (n : List ℕ) → n ≡ fault-taken s m a bad op pc .m → n ≡ fault s m bad op .m
+    unfolding fault
+    fault-memory n e = cc
+
+    pub fault-event : (x : ℕ) → x ≡ fault-taken s m a bad op pc .event → x ≡ fault s m bad op .event
+    unfolding fault
+    fault-event x e = cc
+
+  module _ (y : b ≡ false) where
+    pub fault-halts-slots : set s 19 2 ≡ fault s m bad op .s
+    unfolding fault
+    fault-halts-slots = cc
+
+    pub fault-halts-memory : m ≡ fault s m bad op .m
+    unfolding fault
+    fault-halts-memory = cc
+
+    pub fault-halts-event : 257 ≡ fault s m bad op .event
+    unfolding fault
+    fault-halts-event = cc
+
+-- nothing is written, and nothing noted
+pub noted-still : (m l : List ℕ) (n k : ℕ) → LogOk m l n → Noted m l n k m l n
+noted-still m l n k ok = let none = noted-none m l n ok in noted-then m l n 0 m l n 0 m l n k (omega arith) none none

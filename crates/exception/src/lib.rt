@@ -1,0 +1,193 @@
+// lib.rt - an exception: its frame of 6 or 14 bytes on SSP, the vector, and the halt where the frame cannot be written whole.
+// Means: specs/Exceptions.antt.  Laws: proofs/ExceptionLaws.antt.
+// Uses: bits, bank, bus, store, touch.  Source: [003 4.3], [003 4.4], [01 step 1], [01 step 7], [01 step 8].
+ghost use mathlib.Core.Path.{_≡_};
+ghost use Prim.Native.Nat.{ℕ, _+_, _*_, _%_, _/_, _<_, _≤_};
+ghost use lib.ListN.{getD, set, length};
+ghost use Rattle.bus.specs.Bus.{view-of};
+ghost use Rattle.touch.specs.Touch.{LogOk, Noted};
+ghost use Rattle.exception.specs.Exceptions.{fresh, small-room, small-frame, big-room, fault-access, fault-rest, big-frame, enter, exception, fault-taken, fault, supervisor-sr};
+use bus::Flow;
+
+// How an exception, or a step, ended: the entries of the touch log, and the event: 0 nothing, 1 more than the vector taken first, or
+// 257 for a halt.
+pub struct Ended {
+    pub n: usize,
+    pub event: u32,
+}
+
+// The flow at an instruction's first word.
+pub fn fresh(pc: u32, sr: u32) -> Flow
+    ensures { λ r. ⌜ r ≡ fresh pc sr ⌝ }
+{
+    Flow { pc, sr, bad: 0 }
+}
+
+// SR as an exception leaves it: S set, T clear.
+pub fn supervisor_sr(sr: u32) -> u32
+    ensures { λ r. ⌜ r ≡ supervisor-sr sr ⌝ }
+{
+    8192 + sr % 8192
+}
+
+// Whether the six bytes of a frame can be written.
+fn small_room(mem: &[u8], a: u32) -> bool
+    ensures { λ r. ⌜ r ≡ small-room (view-of (now (mem .entry))) a ⌝ }
+{
+    let g = bus::room(mem, a, 1, fresh(0, 0));
+    let h = bus::room(mem, std::num::wrapping_add_u32(a, 2), 2, g);
+    h.bad == 0
+}
+
+fn small_frame(mem: &mut [u8], log: &mut [u64], n: usize, a: u32, sr: u32, pc: u32) -> usize
+    requires { ⌜ LogOk (now mem) (now log) n × (n + 6 ≤ length (now log)) ⌝ }
+    ensures { λ _. ⌜ now (mem .exit) ≡ small-frame (now (mem .entry)) a sr pc ⌝ }
+    ensures { λ r. ⌜ Noted (now (mem .entry)) (now (log .entry)) n 6 (now (mem .exit)) (now (log .exit)) r ⌝ }
+{
+    let k = store::store_word(mem, log, n, a, sr);
+    store::store_long(mem, log, k, std::num::wrapping_add_u32(a, 2), pc)
+}
+
+// The slots as an exception leaves them: SSP at the frame, PC from the vector, which is read after the frame is written; running.
+fn enter(s: &mut [u32; 20], mem: &[u8], a: u32, vec: u32, sr: u32)
+    ensures { λ _. ⌜ now (s .exit) ≡ enter (now (s .entry)) (view-of (now (mem .entry))) a vec sr ⌝ }
+{
+    let w = bus::read_long(mem, vec % 256 * 4, 17, fresh(0, 0));
+    let pc = w.v;
+    s[16] = a;
+    s[17] = pc;
+    s[18] = sr;
+    s[19] = 0;
+}
+
+// An exception with the small frame; sr is the SR that it leaves.
+pub fn exception(
+    s: &mut [u32; 20],
+    mem: &mut [u8],
+    log: &mut [u64],
+    n: usize,
+    vec: u32,
+    sr: u32,
+) -> Ended
+    requires { ⌜ LogOk (now mem) (now log) n × (n + 6 ≤ length (now log)) ⌝ }
+    ensures { λ _. ⌜ now (s .exit) ≡ exception (now (s .entry)) (now (mem .entry)) vec sr .s ⌝ }
+    ensures { λ _. ⌜ now (mem .exit) ≡ exception (now (s .entry)) (now (mem .entry)) vec sr .m ⌝ }
+    ensures { λ r. ⌜ r .event ≡ exception (now (s .entry)) (now (mem .entry)) vec sr .event ⌝ }
+    ensures { λ r. ⌜ Noted (now (mem .entry)) (now (log .entry)) n 6 (now (mem .exit)) (now (log .exit)) (r .n) ⌝ }
+{
+    let old = s[18];
+    let pc = s[17];
+    let a = bits::minus(s[16], 6);
+    let ok = small_room(mem, a);
+    if ok {
+        let k = small_frame(mem, log, n, a, old, pc);
+        enter(s, mem, a, vec, sr);
+        return Ended {
+            n: k,
+            event: vec % 256 + 1,
+        };
+    }
+    s[19] = 2;
+    Ended { n, event: 257 }
+}
+
+// Whether the fourteen bytes of a fault's frame can be written.
+fn big_room(mem: &[u8], a: u32) -> bool
+    ensures { λ r. ⌜ r ≡ big-room (view-of (now (mem .entry))) a ⌝ }
+{
+    let g = bus::room(mem, a, 2, fresh(0, 0));
+    let h = bus::room(mem, std::num::wrapping_add_u32(a, 4), 2, g);
+    let i = bus::room(mem, std::num::wrapping_add_u32(a, 8), 2, h);
+    let j = bus::room(mem, std::num::wrapping_add_u32(a, 12), 1, i);
+    j.bad == 0
+}
+
+// The information word and the access address of a fault.
+fn fault_access(mem: &mut [u8], log: &mut [u64], n: usize, a: u32, bad: u32) -> usize
+    requires { ⌜ LogOk (now mem) (now log) n × (n + 6 ≤ length (now log)) ⌝ }
+    ensures { λ _. ⌜ now (mem .exit) ≡ fault-access (now (mem .entry)) a bad ⌝ }
+    ensures { λ r. ⌜ Noted (now (mem .entry)) (now (log .entry)) n 6 (now (mem .exit)) (now (log .exit)) r ⌝ }
+{
+    let k = store::store_word(mem, log, n, a, bad / 4 % 64);
+    store::store_long(mem, log, k, std::num::wrapping_add_u32(a, 2), bad / 256)
+}
+
+// The operation word of a fault, SR and PC.
+fn fault_rest(mem: &mut [u8], log: &mut [u64], n: usize, a: u32, op: u32, sr: u32, pc: u32) -> usize
+    requires { ⌜ LogOk (now mem) (now log) n × (n + 8 ≤ length (now log)) ⌝ }
+    ensures { λ _. ⌜ now (mem .exit) ≡ fault-rest (now (mem .entry)) a op sr pc ⌝ }
+    ensures { λ r. ⌜ Noted (now (mem .entry)) (now (log .entry)) n 8 (now (mem .exit)) (now (log .exit)) r ⌝ }
+{
+    let k = store::store_word(mem, log, n, a, op);
+    small_frame(mem, log, k, std::num::wrapping_add_u32(a, 2), sr, pc)
+}
+
+// From the lowest address: information word, access address, operation word, SR, PC.
+fn big_frame(
+    mem: &mut [u8],
+    log: &mut [u64],
+    n: usize,
+    a: u32,
+    bad: u32,
+    op: u32,
+    sr: u32,
+    pc: u32,
+) -> usize
+    requires { ⌜ LogOk (now mem) (now log) n × (n + 14 ≤ length (now log)) ⌝ }
+    ensures { λ _. ⌜ now (mem .exit) ≡ big-frame (now (mem .entry)) a bad op sr pc ⌝ }
+    ensures { λ r. ⌜ Noted (now (mem .entry)) (now (log .entry)) n 14 (now (mem .exit)) (now (log .exit)) r ⌝ }
+{
+    let k = fault_access(mem, log, n, a, bad);
+    fault_rest(mem, log, k, std::num::wrapping_add_u32(a, 6), op, sr, pc)
+}
+
+// A fault whose frame at a can be written.
+fn fault_taken(
+    s: &mut [u32; 20],
+    mem: &mut [u8],
+    log: &mut [u64],
+    n: usize,
+    a: u32,
+    bad: u32,
+    op: u32,
+    pc: u32,
+) -> Ended
+    requires { ⌜ LogOk (now mem) (now log) n × (n + 14 ≤ length (now log)) ⌝ }
+    ensures { λ _. ⌜ now (s .exit) ≡ fault-taken (now (s .entry)) (now (mem .entry)) a bad op pc .s ⌝ }
+    ensures { λ _. ⌜ now (mem .exit) ≡ fault-taken (now (s .entry)) (now (mem .entry)) a bad op pc .m ⌝ }
+    ensures { λ r. ⌜ r .event ≡ fault-taken (now (s .entry)) (now (mem .entry)) a bad op pc .event ⌝ }
+    ensures { λ r. ⌜ Noted (now (mem .entry)) (now (log .entry)) n 14 (now (mem .exit)) (now (log .exit)) (r .n) ⌝ }
+{
+    let sr = s[18];
+    let k = big_frame(mem, log, n, a, bad, op, sr, pc);
+    enter(s, mem, a, bad % 4, supervisor_sr(sr));
+    Ended {
+        n: k,
+        event: bad % 4 + 1,
+    }
+}
+
+// The exception of a fault, from the slots as they were before the instruction: the saved PC is its address plus 2.
+pub fn fault(
+    s: &mut [u32; 20],
+    mem: &mut [u8],
+    log: &mut [u64],
+    n: usize,
+    bad: u32,
+    op: u32,
+) -> Ended
+    requires { ⌜ LogOk (now mem) (now log) n × (n + 14 ≤ length (now log)) ⌝ }
+    ensures { λ _. ⌜ now (s .exit) ≡ fault (now (s .entry)) (now (mem .entry)) bad op .s ⌝ }
+    ensures { λ _. ⌜ now (mem .exit) ≡ fault (now (s .entry)) (now (mem .entry)) bad op .m ⌝ }
+    ensures { λ r. ⌜ r .event ≡ fault (now (s .entry)) (now (mem .entry)) bad op .event ⌝ }
+    ensures { λ r. ⌜ Noted (now (mem .entry)) (now (log .entry)) n 14 (now (mem .exit)) (now (log .exit)) (r .n) ⌝ }
+{
+    let pc = std::num::wrapping_add_u32(s[17], 2);
+    let a = bits::minus(s[16], 14);
+    let ok = big_room(mem, a);
+    if ok {
+        return fault_taken(s, mem, log, n, a, bad, op, pc);
+    }
+    s[19] = 2;
+    Ended { n, event: 257 }
+}
