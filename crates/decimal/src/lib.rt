@@ -2,7 +2,6 @@
 // Means: specs/Decimal.antt.  Laws: proofs/DecimalLaws.antt.
 // Uses: flags, bits.  Source: [003 B ABCD SBCD NBCD], [01 Arithmetic].
 ghost use mathlib.Core.Path.{_≡_};
-ghost use Prim.Native.Nat.{ℕ, _+_, _*_, _%_, _/_, _<_, _≤_};
 ghost use Rattle.decimal.specs.Decimal.{decimal-result, decimal-add, decimal-subtract, decimal-negate};
 
 // A decimal result byte with its flags.

@@ -1,0 +1,10 @@
+use Rattle.signed.proofs.SignedLaws.{divisor-bits, held-bound, quotient-fits, remainder-fits}
+use borrow.Author.Needs.{needs}
+use Rattle.signed.proofs.divide.Statement.{statement}
+use Rattle.signed.proofs.divide.Tie as tie
+
+pub divide-spec : {M : Type 1} → statement M
+divide-spec =
+    tie.close (tie.spec
+    (λ c. search (needs, divisor-bits, quotient-fits, c .pre .1)) (λ c. search (needs, divisor-bits, quotient-fits, c .pre .1))
+    (λ c. (search (needs, quotient-fits, remainder-fits), (search (needs, held-bound, quotient-fits), search (needs, held-bound, remainder-fits)))))
