@@ -16,18 +16,19 @@ use Rattle.plan.specs.Plans.{Done, flagged, nothing, finish, quick}
 unfoldable pub shift-count : List ℕ → ℕ → ℕ
 shift-count r op = pick (eqb (op / 32 % 2) 1) (get r (op / 512 % 8)) (quick op)
 
--- ASL, ASR, LSL, LSR, ROXL, ROXR, ROL, ROR of a data register: bit 8 says left, bits 4 and 3 the kind  [003 B ASL LSL ROXL ROL]
-unfoldable pub shift-register : List ℕ → View → ℕ → Flow → Done
-shift-register r v op f =
-    let z = op / 64 % 4 in
-    let d = modify r v 0 (op % 8) z f in
-    finish (d .r) (d .b .q) z (shift (op / 8 % 4) (eqb (op / 256 % 2) 1) (d .b .v) (shift-count r op) z (f .sr))
+-- an operand of size z is read and moved n places: bit 8 says to the left; k is the kind  [003 B ASL LSL ROXL ROL]
+unfoldable pub shift-place : ℕ → ℕ → ℕ → ℕ → List ℕ → View → ℕ → Flow → Done
+shift-place k n mode z r v op f =
+    let d = modify r v mode (op % 8) z f in
+    finish (d .r) (d .b .q) z (shift k (eqb (op / 256 % 2) 1) (d .b .v) n z (f .sr))
+
+-- ASL, ASR, LSL, LSR, ROXL, ROXR, ROL, ROR of a data register: bits 4 and 3 say the kind  [003 B ASL LSL ROXL ROL]
+abbrev pub shift-register : List ℕ → View → ℕ → Flow → Done
+shift-register r v op f = shift-place (op / 8 % 4) (shift-count r op) 0 (op / 64 % 4) r v op f
 
 -- the same of a word in memory, one place: bits 10 and 9 say the kind  [003 B ASL LSL ROXL ROL]
-unfoldable pub shift-memory : List ℕ → View → ℕ → Flow → Done
-shift-memory r v op f =
-    let d = modify r v (op / 8 % 8) (op % 8) 1 f in
-    finish (d .r) (d .b .q) 1 (shift (op / 512 % 4) (eqb (op / 256 % 2) 1) (d .b .v) 1 1 (f .sr))
+abbrev pub shift-memory : List ℕ → View → ℕ → Flow → Done
+shift-memory r v op f = shift-place (op / 512 % 4) 1 (op / 8 % 8) 1 r v op f
 
 -- a data register is taken as a long, all else as a byte  [003 B BTST]
 unfoldable pub bit-size : ℕ → ℕ

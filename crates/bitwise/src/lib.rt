@@ -4,7 +4,7 @@
 ghost use mathlib.Core.Path.{_≡_};
 ghost use Prim.Native.Nat.{ℕ, _+_, _*_, _%_, _/_, _<_, _≤_};
 ghost use Rattle.bus.specs.Bus.{view-of};
-ghost use Rattle.bitwise.specs.Bitwise.{shift-count, shift-register, shift-memory, bit-size, bit-place, bit-dynamic, bit-static};
+ghost use Rattle.bitwise.specs.Bitwise.{shift-count, shift-place, shift-register, shift-memory, bit-size, bit-place, bit-dynamic, bit-static};
 use bus::Flow;
 use plan::Plan;
 
@@ -19,18 +19,34 @@ fn shift_count(r: &[u32; 17], op: u32) -> u32
     plan::quick(op)
 }
 
+// An operand of size z is moved n places.
+fn shift_place(
+    k: u32,
+    n: u32,
+    mode: u32,
+    z: u32,
+    r: &mut [u32; 17],
+    mem: &[u8],
+    op: u32,
+    f: Flow,
+) -> Plan
+    ensures { λ p. ⌜ p ≡ shift-place k n mode z (now (r .entry)) (view-of (now (mem .entry))) op f .p ⌝ }
+    ensures { λ p. ⌜ now (r .exit) ≡ shift-place k n mode z (now (r .entry)) (view-of (now (mem .entry))) op f .r ⌝ }
+{
+    let left = op / 256 % 2 == 1;
+    let d = operand::modify(r, mem, mode, op % 8, z, f);
+    let q = d.q;
+    let a = shift::shift(k, left, d.v, n, z, f.sr);
+    plan::finish(r, q, z, a)
+}
+
 // A data register, at any size.
 pub fn shift_register(r: &mut [u32; 17], mem: &[u8], op: u32, f: Flow) -> Plan
     ensures { λ p. ⌜ p ≡ shift-register (now (r .entry)) (view-of (now (mem .entry))) op f .p ⌝ }
     ensures { λ p. ⌜ now (r .exit) ≡ shift-register (now (r .entry)) (view-of (now (mem .entry))) op f .r ⌝ }
 {
-    let z = op / 64 % 4;
-    let left = op / 256 % 2 == 1;
     let n = shift_count(r, op);
-    let d = operand::modify(r, mem, 0, op % 8, z, f);
-    let q = d.q;
-    let a = shift::shift(op / 8 % 4, left, d.v, n, z, f.sr);
-    plan::finish(r, q, z, a)
+    shift_place(op / 8 % 4, n, 0, op / 64 % 4, r, mem, op, f)
 }
 
 // A word in memory, one place.
@@ -38,11 +54,7 @@ pub fn shift_memory(r: &mut [u32; 17], mem: &[u8], op: u32, f: Flow) -> Plan
     ensures { λ p. ⌜ p ≡ shift-memory (now (r .entry)) (view-of (now (mem .entry))) op f .p ⌝ }
     ensures { λ p. ⌜ now (r .exit) ≡ shift-memory (now (r .entry)) (view-of (now (mem .entry))) op f .r ⌝ }
 {
-    let left = op / 256 % 2 == 1;
-    let d = operand::modify(r, mem, op / 8 % 8, op % 8, 1, f);
-    let q = d.q;
-    let a = shift::shift(op / 512 % 4, left, d.v, 1, 1, f.sr);
-    plan::finish(r, q, 1, a)
+    shift_place(op / 512 % 4, 1, op / 8 % 8, 1, r, mem, op, f)
 }
 
 // A data register is taken as a long, all else as a byte.

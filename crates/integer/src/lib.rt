@@ -5,7 +5,7 @@ ghost use mathlib.Core.Path.{_≡_};
 ghost use Prim.Native.Nat.{ℕ, _+_, _*_, _%_, _/_, _<_, _≤_};
 ghost use Rattle.bus.specs.Bus.{view-of};
 ghost use Rattle.plan.specs.Plans.{nothing};
-ghost use Rattle.integer.specs.Integer.{binary, address-sum, continuing, unary-result, product-by, quotient-by, only-flags, into-register, onto, replaced};
+ghost use Rattle.integer.specs.Integer.{binary, address-sum, continuing, unary-result, product-by, quotient-by, only-flags, into-register, onto, alone};
 ghost use Rattle.integer.specs.Integer.{to-register, to-memory, immediate-to, compare-immediate, quick-to, quick-registers, to-address, compare-address};
 ghost use Rattle.integer.specs.Integer.{paired, compare-memory, unary, extend, test, multiply, divide};
 use bus::Flow;
@@ -113,7 +113,7 @@ pub fn to_register(which: u32, r: &mut [u32; 17], mem: &[u8], op: u32, f: Flow) 
     into_register(r, n, z, a, g)
 }
 
-// The operand at the mode of the operation word takes b as its source.
+// A source b onto the operand of the operation word's mode.
 fn onto(which: u32, b: u32, r: &mut [u32; 17], mem: &[u8], op: u32, f: Flow) -> Plan
     ensures { λ p. ⌜ p ≡ onto which b (now (r .entry)) (view-of (now (mem .entry))) op f .p ⌝ }
     ensures { λ p. ⌜ now (r .exit) ≡ onto which b (now (r .entry)) (view-of (now (mem .entry))) op f .r ⌝ }
@@ -232,10 +232,10 @@ pub fn compare_memory(r: &mut [u32; 17], mem: &[u8], op: u32, f: Flow) -> Plan
     only_flags(alu::compare(d.v, s.v, f.sr, z), h)
 }
 
-// The operand at the mode of the operation word is replaced.
-fn replaced(which: u32, z: u32, r: &mut [u32; 17], mem: &[u8], op: u32, f: Flow) -> Plan
-    ensures { λ p. ⌜ p ≡ replaced which z (now (r .entry)) (view-of (now (mem .entry))) op f .p ⌝ }
-    ensures { λ p. ⌜ now (r .exit) ≡ replaced which z (now (r .entry)) (view-of (now (mem .entry))) op f .r ⌝ }
+// The operand of the operation word's mode, alone.
+fn alone(which: u32, z: u32, r: &mut [u32; 17], mem: &[u8], op: u32, f: Flow) -> Plan
+    ensures { λ p. ⌜ p ≡ alone which z (now (r .entry)) (view-of (now (mem .entry))) op f .p ⌝ }
+    ensures { λ p. ⌜ now (r .exit) ≡ alone which z (now (r .entry)) (view-of (now (mem .entry))) op f .r ⌝ }
 {
     let d = operand::modify(r, mem, op / 8 % 8, op % 8, z, f);
     let q = d.q;
@@ -248,15 +248,15 @@ pub fn unary(which: u32, r: &mut [u32; 17], mem: &[u8], op: u32, f: Flow) -> Pla
     ensures { λ p. ⌜ p ≡ unary which (now (r .entry)) (view-of (now (mem .entry))) op f .p ⌝ }
     ensures { λ p. ⌜ now (r .exit) ≡ unary which (now (r .entry)) (view-of (now (mem .entry))) op f .r ⌝ }
 {
-    replaced(which, op / 64 % 4 % 3, r, mem, op, f)
+    alone(which, op / 64 % 4 % 3, r, mem, op, f)
 }
 
-// EXT: the mode of the operation word is 0, a data register.
+// EXT: the operation word's mode is 0, a data register.
 pub fn extend(r: &mut [u32; 17], mem: &[u8], op: u32, f: Flow) -> Plan
     ensures { λ p. ⌜ p ≡ extend (now (r .entry)) (view-of (now (mem .entry))) op f .p ⌝ }
     ensures { λ p. ⌜ now (r .exit) ≡ extend (now (r .entry)) (view-of (now (mem .entry))) op f .r ⌝ }
 {
-    replaced(6, 1 + op / 64 % 2, r, mem, op, f)
+    alone(6, 1 + op / 64 % 2, r, mem, op, f)
 }
 
 // TST.
