@@ -1,0 +1,103 @@
+// lib.rt - shift and rotate instructions, and those on single bits: operands read, the result put or planned, the flags set.
+// Means: specs/Bitwise.antt.  Laws: proofs/BitwiseLaws.antt.
+// Uses: bits, flags, alu, shift, bus, operand, plan.  Source: [003 3.5], [003 3.6], [003 B], [01 Arithmetic].
+ghost use mathlib.Core.Path.{_≡_};
+ghost use Prim.Native.Nat.{ℕ, _+_, _*_, _%_, _/_, _<_, _≤_};
+ghost use Rattle.bus.specs.Bus.{view-of};
+ghost use Rattle.bitwise.specs.Bitwise.{shift-count, shift-place, shift-register, shift-memory, bit-size, bit-place, bit-dynamic, bit-static};
+use bus::Flow;
+use plan::Plan;
+
+// How many places: three bits of the operation word, or the data register that they name.
+fn shift_count(r: &[u32; 17], op: u32) -> u32
+    ensures { λ n. ⌜ n ≡ shift-count (now (r .entry)) op ⌝ }
+{
+    let held = op / 32 % 2 == 1;
+    if held {
+        return operand::get(r, op / 512 % 8);
+    }
+    plan::quick(op)
+}
+
+// An operand of size z is moved n places.
+fn shift_place(
+    k: u32,
+    n: u32,
+    mode: u32,
+    z: u32,
+    r: &mut [u32; 17],
+    mem: &[u8],
+    op: u32,
+    f: Flow,
+) -> Plan
+    ensures { λ p. ⌜ p ≡ shift-place k n mode z (now (r .entry)) (view-of (now (mem .entry))) op f .p ⌝ }
+    ensures { λ p. ⌜ now (r .exit) ≡ shift-place k n mode z (now (r .entry)) (view-of (now (mem .entry))) op f .r ⌝ }
+{
+    let left = op / 256 % 2 == 1;
+    let d = operand::modify(r, mem, mode, op % 8, z, f);
+    let q = d.q;
+    let a = shift::shift(k, left, d.v, n, z, f.sr);
+    plan::finish(r, q, z, a)
+}
+
+// A data register, at any size.
+pub fn shift_register(r: &mut [u32; 17], mem: &[u8], op: u32, f: Flow) -> Plan
+    ensures { λ p. ⌜ p ≡ shift-register (now (r .entry)) (view-of (now (mem .entry))) op f .p ⌝ }
+    ensures { λ p. ⌜ now (r .exit) ≡ shift-register (now (r .entry)) (view-of (now (mem .entry))) op f .r ⌝ }
+{
+    let n = shift_count(r, op);
+    shift_place(op / 8 % 4, n, 0, op / 64 % 4, r, mem, op, f)
+}
+
+// A word in memory, one place.
+pub fn shift_memory(r: &mut [u32; 17], mem: &[u8], op: u32, f: Flow) -> Plan
+    ensures { λ p. ⌜ p ≡ shift-memory (now (r .entry)) (view-of (now (mem .entry))) op f .p ⌝ }
+    ensures { λ p. ⌜ now (r .exit) ≡ shift-memory (now (r .entry)) (view-of (now (mem .entry))) op f .r ⌝ }
+{
+    shift_place(op / 512 % 4, 1, op / 8 % 8, 1, r, mem, op, f)
+}
+
+// A data register is taken as a long, all else as a byte.
+fn bit_size(op: u32) -> u32
+    ensures { λ z. ⌜ z ≡ bit-size op ⌝ }
+{
+    let held = op / 8 % 8 == 0;
+    bits::bit(held) * 2
+}
+
+// BTST, BCHG, BCLR, BSET of bit n; BTST writes nothing.
+fn bit_place(n: u32, r: &mut [u32; 17], mem: &[u8], op: u32, f: Flow) -> Plan
+    ensures { λ p. ⌜ p ≡ bit-place n (now (r .entry)) (view-of (now (mem .entry))) op f .p ⌝ }
+    ensures { λ p. ⌜ now (r .exit) ≡ bit-place n (now (r .entry)) (view-of (now (mem .entry))) op f .r ⌝ }
+{
+    let z = bit_size(op);
+    let k = op / 64 % 4;
+    let d = operand::modify(r, mem, op / 8 % 8, op % 8, z, f);
+    let q = d.q;
+    let a = alu::bit_operation(d.v, n, k, f.sr, z);
+    let asked = k == 0;
+    if asked {
+        let g = q.f;
+        return plan::nothing(plan::flagged(g, a.c));
+    }
+    plan::finish(r, q, z, a)
+}
+
+// The bit's number is in a data register.
+pub fn bit_dynamic(r: &mut [u32; 17], mem: &[u8], op: u32, f: Flow) -> Plan
+    ensures { λ p. ⌜ p ≡ bit-dynamic (now (r .entry)) (view-of (now (mem .entry))) op f .p ⌝ }
+    ensures { λ p. ⌜ now (r .exit) ≡ bit-dynamic (now (r .entry)) (view-of (now (mem .entry))) op f .r ⌝ }
+{
+    let n = operand::get(r, op / 512 % 8);
+    bit_place(n, r, mem, op, f)
+}
+
+// The bit's number is in the word after the operation word.
+pub fn bit_static(r: &mut [u32; 17], mem: &[u8], op: u32, f: Flow) -> Plan
+    ensures { λ p. ⌜ p ≡ bit-static (now (r .entry)) (view-of (now (mem .entry))) op f .p ⌝ }
+    ensures { λ p. ⌜ now (r .exit) ≡ bit-static (now (r .entry)) (view-of (now (mem .entry))) op f .r ⌝ }
+{
+    let w = bus::next_word(mem, f);
+    let g = w.f;
+    bit_place(w.v, r, mem, op, g)
+}

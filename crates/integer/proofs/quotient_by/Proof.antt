@@ -1,0 +1,11 @@
+use Rattle.integer.specs.Integer.{quotient-by}
+use Rattle.bits.proofs.BitsLaws.{case-at, case-past}
+use borrow.Author.Needs.{needs}
+use Rattle.integer.proofs.quotient_by.Statement.{statement}
+use Rattle.integer.proofs.quotient_by.Tie as tie
+
+pub quotient-by-spec : {M : Type 1} → statement M
+unfolding quotient-by
+quotient-by-spec =
+    tie.close (tie.spec
+    (λ c κs. search needs) (λ c κs. search needs) (λ c. search case-at) (λ c. search (case-past, c .before .match .rest)))

@@ -1,0 +1,301 @@
+// lib.rt - integer arithmetic, logic and decimal instructions: operands read, the result put or planned, the flags set.
+// Means: specs/Integer.antt.  Laws: proofs/IntegerLaws.antt.
+// Uses: bits, flags, alu, decimal, signed, bus, operand, plan.  Source: [003 3.3], [003 3.4], [003 3.7], [003 B], [01 Operands], [01 Arithmetic].
+ghost use mathlib.Core.Path.{_≡_};
+ghost use Prim.Native.Nat.{ℕ, _+_, _*_, _%_, _/_, _<_, _≤_};
+ghost use Rattle.bus.specs.Bus.{view-of};
+ghost use Rattle.plan.specs.Plans.{nothing};
+ghost use Rattle.integer.specs.Integer.{binary, address-sum, continuing, unary-result, product-by, quotient-by, only-flags, into-register, onto, alone};
+ghost use Rattle.integer.specs.Integer.{to-register, to-memory, immediate-to, compare-immediate, quick-to, quick-registers, to-address, compare-address};
+ghost use Rattle.integer.specs.Integer.{paired, compare-memory, unary, extend, test, multiply, divide};
+use bus::Flow;
+use flags::Flagged;
+use plan::Plan;
+use signed::Divided;
+
+// Destination a and source b: 0 add, 1 subtract, 2 compare, 3 and, 4 or, 5 exclusive or.
+fn binary(which: u32, a: u32, b: u32, old: u32, z: u32) -> Flagged
+    ensures { λ c. ⌜ c ≡ binary which a b old z ⌝ }
+{
+    match which {
+        0 => alu::add(a, b, z),
+        1 => alu::subtract(a, b, z),
+        2 => alu::compare(a, b, old, z),
+        3 => alu::and(a, b, old, z),
+        4 => alu::or(a, b, old, z),
+        _ => alu::exclusive_or(a, b, old, z),
+    }
+}
+
+// Address a and source b, 32 bits: 0 add, 1 subtract.
+fn address_sum(which: u32, a: u32, b: u32) -> u32
+    ensures { λ s. ⌜ s ≡ address-sum which a b ⌝ }
+{
+    match which {
+        0 => std::num::wrapping_add_u32(a, b),
+        _ => bits::minus(a, b),
+    }
+}
+
+// Destination a and source b, going on from a part before: 0 ADDX, 1 SUBX, 2 ABCD, 3 SBCD.
+fn continuing(which: u32, a: u32, b: u32, old: u32, z: u32) -> Flagged
+    ensures { λ c. ⌜ c ≡ continuing which a b old z ⌝ }
+{
+    match which {
+        0 => alu::add_extended(a, b, old, z),
+        1 => alu::subtract_extended(a, b, old, z),
+        2 => decimal::decimal_add(a, b, old),
+        _ => decimal::decimal_subtract(a, b, old),
+    }
+}
+
+// 0 NEG, 1 NEGX, 2 NOT, 3 CLR, 4 NBCD, 5 TAS, 6 EXT to size z.
+fn unary_result(which: u32, a: u32, old: u32, z: u32) -> Flagged
+    ensures { λ c. ⌜ c ≡ unary-result which a old z ⌝ }
+{
+    match which {
+        0 => alu::negate(a, z),
+        1 => alu::negate_extended(a, old, z),
+        2 => alu::complement(a, old, z),
+        3 => alu::moved(0, old, z),
+        4 => decimal::decimal_negate(a, old),
+        5 => alu::tas(a, old),
+        _ => alu::extended(a, old, z),
+    }
+}
+
+// 0 MULS, 1 MULU.
+fn product_by(which: u32, a: u32, b: u32, old: u32) -> Flagged
+    ensures { λ c. ⌜ c ≡ product-by which a b old ⌝ }
+{
+    match which {
+        0 => signed::multiply_signed(a, b, old),
+        _ => signed::multiply_unsigned(a, b, old),
+    }
+}
+
+// 0 DIVS, 1 DIVU.
+fn quotient_by(which: u32, a: u32, b: u32, old: u32) -> Divided
+    ensures { λ c. ⌜ c ≡ quotient-by which a b old ⌝ }
+{
+    match which {
+        0 => signed::divide_signed(a, b, old),
+        _ => signed::divide_unsigned(a, b, old),
+    }
+}
+
+// Nothing is written but the flags.
+fn only_flags(a: Flagged, f: Flow) -> Plan
+    ensures { λ p. ⌜ p ≡ only-flags a f ⌝ }
+{
+    plan::nothing(plan::flagged(f, a.c))
+}
+
+// A result and its flags, to register n.
+fn into_register(r: &mut [u32; 17], n: u32, z: u32, a: Flagged, f: Flow) -> Plan
+    ensures { λ p. ⌜ p ≡ into-register (now (r .entry)) n z a f .p ⌝ }
+    ensures { λ p. ⌜ now (r .exit) ≡ into-register (now (r .entry)) n z a f .r ⌝ }
+{
+    operand::put_low(r, n, z, a.v);
+    only_flags(a, f)
+}
+
+// ADD, SUB, AND, OR, CMP <ea>,Dn.
+pub fn to_register(which: u32, r: &mut [u32; 17], mem: &[u8], op: u32, f: Flow) -> Plan
+    ensures { λ p. ⌜ p ≡ to-register which (now (r .entry)) (view-of (now (mem .entry))) op f .p ⌝ }
+    ensures { λ p. ⌜ now (r .exit) ≡ to-register which (now (r .entry)) (view-of (now (mem .entry))) op f .r ⌝ }
+{
+    let z = op / 64 % 4;
+    let n = op / 512 % 8;
+    let w = operand::source(r, mem, op / 8 % 8, op % 8, z, f);
+    let g = w.f;
+    let a = binary(which, operand::get(r, n), w.v, f.sr, z);
+    into_register(r, n, z, a, g)
+}
+
+// A source b onto the operand of the operation word's mode.
+fn onto(which: u32, b: u32, r: &mut [u32; 17], mem: &[u8], op: u32, f: Flow) -> Plan
+    ensures { λ p. ⌜ p ≡ onto which b (now (r .entry)) (view-of (now (mem .entry))) op f .p ⌝ }
+    ensures { λ p. ⌜ now (r .exit) ≡ onto which b (now (r .entry)) (view-of (now (mem .entry))) op f .r ⌝ }
+{
+    let z = op / 64 % 4;
+    let d = operand::modify(r, mem, op / 8 % 8, op % 8, z, f);
+    let q = d.q;
+    let a = binary(which, d.v, b, f.sr, z);
+    plan::finish(r, q, z, a)
+}
+
+// ADD, SUB, AND, OR, EOR Dn,<ea>.
+pub fn to_memory(which: u32, r: &mut [u32; 17], mem: &[u8], op: u32, f: Flow) -> Plan
+    ensures { λ p. ⌜ p ≡ to-memory which (now (r .entry)) (view-of (now (mem .entry))) op f .p ⌝ }
+    ensures { λ p. ⌜ now (r .exit) ≡ to-memory which (now (r .entry)) (view-of (now (mem .entry))) op f .r ⌝ }
+{
+    let b = operand::get(r, op / 512 % 8);
+    onto(which, b, r, mem, op, f)
+}
+
+// ADDI, SUBI, ANDI, ORI, EORI.
+pub fn immediate_to(which: u32, r: &mut [u32; 17], mem: &[u8], op: u32, f: Flow) -> Plan
+    ensures { λ p. ⌜ p ≡ immediate-to which (now (r .entry)) (view-of (now (mem .entry))) op f .p ⌝ }
+    ensures { λ p. ⌜ now (r .exit) ≡ immediate-to which (now (r .entry)) (view-of (now (mem .entry))) op f .r ⌝ }
+{
+    let i = operand::immediate(mem, op / 64 % 4, f);
+    let g = i.f;
+    onto(which, i.at, r, mem, op, g)
+}
+
+// CMPI.
+pub fn compare_immediate(r: &mut [u32; 17], mem: &[u8], op: u32, f: Flow) -> Plan
+    ensures { λ p. ⌜ p ≡ compare-immediate (now (r .entry)) (view-of (now (mem .entry))) op f .p ⌝ }
+    ensures { λ p. ⌜ now (r .exit) ≡ compare-immediate (now (r .entry)) (view-of (now (mem .entry))) op f .r ⌝ }
+{
+    let z = op / 64 % 4;
+    let i = operand::immediate(mem, z, f);
+    let g = i.f;
+    let d = operand::source(r, mem, op / 8 % 8, op % 8, z, g);
+    let h = d.f;
+    only_flags(alu::compare(d.v, i.at, f.sr, z), h)
+}
+
+// ADDQ, SUBQ to a place that is no address register.
+pub fn quick_to(which: u32, r: &mut [u32; 17], mem: &[u8], op: u32, f: Flow) -> Plan
+    ensures { λ p. ⌜ p ≡ quick-to which (now (r .entry)) (view-of (now (mem .entry))) op f .p ⌝ }
+    ensures { λ p. ⌜ now (r .exit) ≡ quick-to which (now (r .entry)) (view-of (now (mem .entry))) op f .r ⌝ }
+{
+    onto(which, plan::quick(op), r, mem, op, f)
+}
+
+// ADDQ, SUBQ to An: 32 bits at any size, and no flag.
+pub fn quick_address(which: u32, r: &mut [u32; 17], op: u32, f: Flow) -> Plan
+    ensures { λ p. ⌜ p ≡ nothing f ⌝ }
+    ensures { λ p. ⌜ now (r .exit) ≡ quick-registers which (now (r .entry)) op ⌝ }
+{
+    let n = 8 + op % 8;
+    let a = address_sum(which, operand::get(r, n), plan::quick(op));
+    operand::put(r, n, a);
+    plan::nothing(f)
+}
+
+// ADDA, SUBA: the address register as the source's step left it.
+pub fn to_address(which: u32, r: &mut [u32; 17], mem: &[u8], op: u32, f: Flow) -> Plan
+    ensures { λ p. ⌜ p ≡ to-address which (now (r .entry)) (view-of (now (mem .entry))) op f .p ⌝ }
+    ensures { λ p. ⌜ now (r .exit) ≡ to-address which (now (r .entry)) (view-of (now (mem .entry))) op f .r ⌝ }
+{
+    let z = 1 + op / 256 % 2;
+    let n = 8 + op / 512 % 8;
+    let w = operand::source(r, mem, op / 8 % 8, op % 8, z, f);
+    let g = w.f;
+    let b = bits::sign_extended(w.v, z);
+    let a = address_sum(which, operand::get(r, n), b);
+    operand::put(r, n, a);
+    plan::nothing(g)
+}
+
+// CMPA: 32 bits, the address register as the source's step left it.
+pub fn compare_address(r: &mut [u32; 17], mem: &[u8], op: u32, f: Flow) -> Plan
+    ensures { λ p. ⌜ p ≡ compare-address (now (r .entry)) (view-of (now (mem .entry))) op f .p ⌝ }
+    ensures { λ p. ⌜ now (r .exit) ≡ compare-address (now (r .entry)) (view-of (now (mem .entry))) op f .r ⌝ }
+{
+    let z = 1 + op / 256 % 2;
+    let n = 8 + op / 512 % 8;
+    let w = operand::source(r, mem, op / 8 % 8, op % 8, z, f);
+    let g = w.f;
+    let b = bits::sign_extended(w.v, z);
+    only_flags(alu::compare(operand::get(r, n), b, f.sr, 2), g)
+}
+
+// ADDX, SUBX, ABCD, SBCD: Dy,Dx or -(Ay),-(Ax).
+pub fn paired(which: u32, r: &mut [u32; 17], mem: &[u8], op: u32, f: Flow) -> Plan
+    ensures { λ p. ⌜ p ≡ paired which (now (r .entry)) (view-of (now (mem .entry))) op f .p ⌝ }
+    ensures { λ p. ⌜ now (r .exit) ≡ paired which (now (r .entry)) (view-of (now (mem .entry))) op f .r ⌝ }
+{
+    let z = op / 64 % 4;
+    let mode = op / 8 % 2 * 4;
+    let s = operand::source(r, mem, mode, op % 8, z, f);
+    let g = s.f;
+    let d = operand::modify(r, mem, mode, op / 512 % 8, z, g);
+    let q = d.q;
+    let a = continuing(which, d.v, s.v, f.sr, z);
+    plan::finish(r, q, z, a)
+}
+
+// CMPM (Ay)+,(Ax)+.
+pub fn compare_memory(r: &mut [u32; 17], mem: &[u8], op: u32, f: Flow) -> Plan
+    ensures { λ p. ⌜ p ≡ compare-memory (now (r .entry)) (view-of (now (mem .entry))) op f .p ⌝ }
+    ensures { λ p. ⌜ now (r .exit) ≡ compare-memory (now (r .entry)) (view-of (now (mem .entry))) op f .r ⌝ }
+{
+    let z = op / 64 % 4;
+    let s = operand::source(r, mem, 3, op % 8, z, f);
+    let g = s.f;
+    let d = operand::source(r, mem, 3, op / 512 % 8, z, g);
+    let h = d.f;
+    only_flags(alu::compare(d.v, s.v, f.sr, z), h)
+}
+
+// The operand of the operation word's mode, alone.
+fn alone(which: u32, z: u32, r: &mut [u32; 17], mem: &[u8], op: u32, f: Flow) -> Plan
+    ensures { λ p. ⌜ p ≡ alone which z (now (r .entry)) (view-of (now (mem .entry))) op f .p ⌝ }
+    ensures { λ p. ⌜ now (r .exit) ≡ alone which z (now (r .entry)) (view-of (now (mem .entry))) op f .r ⌝ }
+{
+    let d = operand::modify(r, mem, op / 8 % 8, op % 8, z, f);
+    let q = d.q;
+    let a = unary_result(which, d.v, f.sr, z);
+    plan::finish(r, q, z, a)
+}
+
+// NEG, NEGX, NOT, CLR, NBCD, TAS. TAS, a byte, has 3 for its size.
+pub fn unary(which: u32, r: &mut [u32; 17], mem: &[u8], op: u32, f: Flow) -> Plan
+    ensures { λ p. ⌜ p ≡ unary which (now (r .entry)) (view-of (now (mem .entry))) op f .p ⌝ }
+    ensures { λ p. ⌜ now (r .exit) ≡ unary which (now (r .entry)) (view-of (now (mem .entry))) op f .r ⌝ }
+{
+    alone(which, op / 64 % 4 % 3, r, mem, op, f)
+}
+
+// EXT: the operation word's mode is 0, a data register.
+pub fn extend(r: &mut [u32; 17], mem: &[u8], op: u32, f: Flow) -> Plan
+    ensures { λ p. ⌜ p ≡ extend (now (r .entry)) (view-of (now (mem .entry))) op f .p ⌝ }
+    ensures { λ p. ⌜ now (r .exit) ≡ extend (now (r .entry)) (view-of (now (mem .entry))) op f .r ⌝ }
+{
+    alone(6, 1 + op / 64 % 2, r, mem, op, f)
+}
+
+// TST.
+pub fn test(r: &mut [u32; 17], mem: &[u8], op: u32, f: Flow) -> Plan
+    ensures { λ p. ⌜ p ≡ test (now (r .entry)) (view-of (now (mem .entry))) op f .p ⌝ }
+    ensures { λ p. ⌜ now (r .exit) ≡ test (now (r .entry)) (view-of (now (mem .entry))) op f .r ⌝ }
+{
+    let z = op / 64 % 4;
+    let w = operand::source(r, mem, op / 8 % 8, op % 8, z, f);
+    let g = w.f;
+    only_flags(alu::moved(w.v, f.sr, z), g)
+}
+
+// MULS, MULU.
+pub fn multiply(which: u32, r: &mut [u32; 17], mem: &[u8], op: u32, f: Flow) -> Plan
+    ensures { λ p. ⌜ p ≡ multiply which (now (r .entry)) (view-of (now (mem .entry))) op f .p ⌝ }
+    ensures { λ p. ⌜ now (r .exit) ≡ multiply which (now (r .entry)) (view-of (now (mem .entry))) op f .r ⌝ }
+{
+    let n = op / 512 % 8;
+    let w = operand::source(r, mem, op / 8 % 8, op % 8, 1, f);
+    let g = w.f;
+    let a = product_by(which, operand::get(r, n), w.v, f.sr);
+    into_register(r, n, 2, a, g)
+}
+
+// DIVS, DIVU: a zero divisor traps, with the flags set and the source's step kept.
+pub fn divide(which: u32, r: &mut [u32; 17], mem: &[u8], op: u32, f: Flow) -> Plan
+    ensures { λ p. ⌜ p ≡ divide which (now (r .entry)) (view-of (now (mem .entry))) op f .p ⌝ }
+    ensures { λ p. ⌜ now (r .exit) ≡ divide which (now (r .entry)) (view-of (now (mem .entry))) op f .r ⌝ }
+{
+    let n = op / 512 % 8;
+    let w = operand::source(r, mem, op / 8 % 8, op % 8, 1, f);
+    let g = w.f;
+    let d = quotient_by(which, operand::get(r, n), w.v, f.sr);
+    let h = plan::flagged(g, d.c);
+    let zero = d.zero;
+    if zero {
+        return plan::trapping(5, h);
+    }
+    operand::put(r, n, d.v);
+    plan::nothing(h)
+}
