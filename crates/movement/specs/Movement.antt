@@ -10,7 +10,7 @@ use Rattle.bus.specs.declared.Flow.{Flow}
 use Rattle.bus.specs.declared.Fetched.{Fetched}
 use Rattle.bus.specs.Bus.{View, read-byte, read-long, next-word}
 use Rattle.operand.specs.declared.Operand.{Operand}
-use Rattle.operand.specs.Operands.{get, put, put-low, locate, load, source, target, with-flow}
+use Rattle.operand.specs.Operands.{get, put, put-low, locate, load, Modify, source, target, with-flow}
 use Rattle.alu.specs.Alu.{moved, swapped}
 use Rattle.plan.specs.Plans.{Done, flagged, nothing, writing, finish, push}
 
@@ -18,14 +18,20 @@ use Rattle.plan.specs.Plans.{Done, flagged, nothing, writing, finish, push}
 unfoldable pub move-size : ℕ → ℕ
 move-size op = pick (eqb (op / 4096) 1) 0 (pick (eqb (op / 4096) 3) 1 2)
 
--- MOVE: the source's place and step, the destination's place, the source's value, the destination's step; it is not read  [003 B MOVE] [01 Operands]
-unfoldable pub move-data : List ℕ → View → ℕ → Flow → Done
-move-data r v op f =
-    let z = move-size op in
+-- MOVE's operands: the source's place and step, the destination's place, the source's value, the destination's step  [01 step 6] [01 Operands]
+unfoldable pub move-operands : List ℕ → View → ℕ → ℕ → Flow → Modify
+move-operands r v op z f =
     let s = target r v (op / 8 % 8) (op % 8) z f in
     let q = locate (s .r) v (op / 64 % 8) (op / 512 % 8) z (s .q .f) in
     let w = load (s .r) v (s .q) z (q .f) in
-    finish (put (s .r) (q .reg) (q .step)) (with-flow q (w .f)) z (moved (w .v) (f .sr) z)
+    record { r = put (s .r) (q .reg) (q .step); b = record { v = w .v; q = with-flow q (w .f) } }
+
+-- MOVE: the destination is not read  [003 B MOVE]
+unfoldable pub move-data : List ℕ → View → ℕ → Flow → Done
+move-data r v op f =
+    let z = move-size op in
+    let s = move-operands r v op z f in
+    finish (s .r) (s .b .q) z (moved (s .b .v) (f .sr) z)
 
 -- MOVEA: a word is carried on to 32 bits; no flags  [003 B MOVEA]
 unfoldable pub move-address : List ℕ → View → ℕ → Flow → Done

@@ -6,9 +6,10 @@ ghost use Prim.Native.Nat.{ℕ, _+_, _*_, _%_, _/_, _<_, _≤_};
 ghost use Rattle.bits.specs.Bits.{minus};
 ghost use Rattle.bus.specs.Bus.{view-of};
 ghost use Rattle.operand.specs.Operands.{get, put};
-ghost use Rattle.movement.specs.Movement.{move-size, move-data, move-address, move-quick, load-address, push-address, exchange, exchange-data, exchange-address, exchange-both, swap, link, unlink, every-other-word, every-other, movep-to-register, movep-to-memory};
+ghost use Rattle.movement.specs.Movement.{move-size, move-operands, move-data, move-address, move-quick, load-address, push-address, exchange, exchange-data, exchange-address, exchange-both, swap, link, unlink, every-other-word, every-other, movep-to-register, movep-to-memory};
 use bus::Fetched;
 use bus::Flow;
+use operand::Both;
 use operand::Operand;
 use plan::Plan;
 
@@ -27,14 +28,13 @@ fn move_size(op: u32) -> u32
     2
 }
 
-// All extension words come before the source is read, and the source's step before the destination's address. The source is read
-// before the destination's step: MOVE.L A0,-(A0) stores the first value.
-pub fn move_data(r: &mut [u32; 17], mem: &[u8], op: u32, f: Flow) -> Plan
-    ensures { λ p. ⌜ p ≡ move-data (now (r .entry)) (view-of (now (mem .entry))) op f .p ⌝ }
-    ensures { λ p. ⌜ now (r .exit) ≡ move-data (now (r .entry)) (view-of (now (mem .entry))) op f .r ⌝ }
+// The source's value, and the destination's place with its register stepped. All extension words come before the source is read, and
+// the source's step before the destination's address. The source is read before the destination's step: MOVE.L A0,-(A0) stores the
+// first value.
+fn move_operands(r: &mut [u32; 17], mem: &[u8], op: u32, z: u32, f: Flow) -> Both
+    ensures { λ b. ⌜ b ≡ move-operands (now (r .entry)) (view-of (now (mem .entry))) op z f .b ⌝ }
+    ensures { λ b. ⌜ now (r .exit) ≡ move-operands (now (r .entry)) (view-of (now (mem .entry))) op z f .r ⌝ }
 {
-    let sr = f.sr;
-    let z = move_size(op);
     let s = operand::target(r, mem, op / 8 % 8, op % 8, z, f);
     let sf = s.f;
     let q = operand::locate(r, mem, op / 64 % 8, op / 512 % 8, z, sf);
@@ -50,7 +50,17 @@ pub fn move_data(r: &mut [u32; 17], mem: &[u8], op: u32, f: Flow) -> Plan
         step: q.step,
         f: wf,
     };
-    plan::finish(r, d, z, alu::moved(w.v, sr, z))
+    Both { v: w.v, q: d }
+}
+
+pub fn move_data(r: &mut [u32; 17], mem: &[u8], op: u32, f: Flow) -> Plan
+    ensures { λ p. ⌜ p ≡ move-data (now (r .entry)) (view-of (now (mem .entry))) op f .p ⌝ }
+    ensures { λ p. ⌜ now (r .exit) ≡ move-data (now (r .entry)) (view-of (now (mem .entry))) op f .r ⌝ }
+{
+    let z = move_size(op);
+    let b = move_operands(r, mem, op, z, f);
+    let q = b.q;
+    plan::finish(r, q, z, alu::moved(b.v, f.sr, z))
 }
 
 pub fn move_address(r: &mut [u32; 17], mem: &[u8], op: u32, f: Flow) -> Plan
