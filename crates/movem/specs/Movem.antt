@@ -1,0 +1,133 @@
+-- Movem.antt - MOVEM as walks along a list of 16 bits, lowest bit first: registers loaded, room asked, registers stored; and MOVEP's store.
+-- Choices: nothing past a list is read, and an empty list touches no operand [01 Operands]; a block that cannot be written faults at the
+-- first of its writes in the manual's order, downward from A7 for -(An).
+-- Laws: proofs/MovemLaws.antt.  Source: [003 B MOVEM], [003 B MOVEP], [01 step 6], [01 Operands].
+use Prim.Native.Nat.{ℕ, _+_, _*_, _%_, _/_, _-_}
+use mathlib.Core.Bool.{Bool}
+use mathlib.Core.List.{List, [], _∷_}
+use lib.ListN.{getD}
+use lib.Dec.{leb, eqb}
+use lib.Count.{onesIn}
+use Rattle.bits.specs.Bits.{pick, iter, plus, minus, sign-extended}
+use Rattle.bus.specs.declared.Flow.{Flow}
+use Rattle.bus.specs.Bus.{View, read-sized, next-word, room, put-sized}
+use Rattle.operand.specs.Operands.{get, put, locate}
+use Rattle.plan.specs.declared.Plan.{Plan}
+use Rattle.plan.specs.Plans.{Done, nothing, writing}
+use Rattle.movem.specs.declared.Way.{Way}
+use Rattle.movem.specs.declared.Spot.{Spot}
+
+-- whether the list has the part at which a walk stands  [003 B MOVEM]
+abbrev pub listed : Spot → Bool
+listed d = eqb (d .list % 2) 1
+
+-- where a walk begins, and where it stands after one bit of its list  [ours]
+abbrev pub first-spot : Way → Flow → Spot
+first-spot w f = record { list = w .list; k = 0; a = w .start; f = f }
+
+unfoldable pub next-spot : Way → Spot → Flow → Spot
+next-spot w d f = record { list = d .list / 2; k = plus (d .k) 1; a = pick (listed d) (plus (d .a) (w .step)) (d .a); f = f }
+
+-- registers on the way, and where the walk stands  [ours]
+pub record Loading : Type 0 where
+  pub r : List ℕ
+  pub d : Spot
+
+-- one register, if the list has it: bit 0 is D0, bit 8 A0; a word is carried on to 32 bits  [003 B MOVEM] [01 Operands]
+unfoldable pub load-one : View → ℕ → Way → Loading → Loading
+load-one v k w t =
+    let d = t .d in
+    let x = read-sized v (d .a) (w .z) k (d .f) in
+    pick (listed d) (record { r = put (t .r) (d .k) (sign-extended (x .v) (w .z)); d = next-spot w d (x .f) })
+    (record { r = t .r; d = next-spot w d (d .f) })
+
+-- all sixteen  [003 B MOVEM]
+abbrev pub load-list : List ℕ → View → ℕ → Way → Flow → Loading
+load-list r v k w f = iter (load-one v k w) 16 (record { r = r; d = first-spot w f })
+
+-- MOVEM to registers: the list's word, then the mode's words; (An)+ leaves An at the final address even if An was listed  [003 B MOVEM] [01 Operands]
+unfoldable pub movem-to-registers : List ℕ → View → ℕ → Flow → Done
+movem-to-registers r v op f =
+    let z = 1 + op / 64 % 2 in
+    let l = next-word v f in
+    let q = locate r v (op / 8 % 8) (op % 8) z (l .f) in
+    let t = load-list r v (q .k) (record { z = z; list = l .v; start = q .at; step = 2 * z }) (q .f) in
+    record { r = put (t .r) (q .reg) (t .d .a); p = nothing (t .d .f) }
+
+-- MOVEM to -(An): An falls by the size for each one of the list, and its first value goes into the plan  [003 B MOVEM] [01 Operands]
+unfoldable pub movem-down : List ℕ → ℕ → ℕ → Flow → Done
+movem-down r list op f =
+    let i = 8 + op % 8 in
+    let a = get r i in
+    record { r = put r i (minus a (onesIn 16 list * 2 * (1 + op / 64 % 2))); p = writing (6 + op / 64 % 2) a (list % 65536 + 65536 * i) f }
+
+-- MOVEM to memory: the list's word, then the mode's words; a write of code 4 or 5 upward, 6 or 7 downward  [003 B MOVEM]
+unfoldable pub movem-to-memory : List ℕ → View → ℕ → Flow → Done
+movem-to-memory r v op f =
+    let l = next-word v f in
+    let q = locate r v (op / 8 % 8) (op % 8) (1 + op / 64 % 2) (l .f) in
+    pick (eqb (op / 8 % 8) 4)
+    (movem-down r (l .v) op (l .f))
+    (record { r = r; p = writing (4 + op / 64 % 2) (q .at) (l .v + 65536 * 17) (q .f) })
+
+-- a plan's block as its room is asked, by its code: 4, 5 upward, 6, 7 downward from A7, else every other byte  [003 B MOVEM] [003 B MOVEP]
+unfoldable pub room-way : Plan → Way
+room-way p =
+    let z = 1 + p .z % 2 in
+    pick (eqb (p .z / 2) 2) (record { z = z; list = p .v % 65536; start = p .at; step = 2 * z })
+    (pick (eqb (p .z / 2) 3) (record { z = z; list = p .v % 65536; start = minus (p .at) (2 * z); step = minus 0 (2 * z) })
+    (record { z = 0; list = 3 + p .z % 2 * 12; start = p .at; step = 2 }))
+
+-- one part of a block, if the list has it: is there room  [01 step 6]
+unfoldable pub room-one : View → Way → Spot → Spot
+room-one v w d = next-spot w d (pick (listed d) (room v (d .a) (w .z) (d .f)) (d .f))
+
+-- all of a block  [01 step 6]
+abbrev pub room-list : View → Way → Flow → Spot
+room-list v w f = iter (room-one v w) 16 (first-spot w f)
+
+-- the flow with the fault that a block's writes meet first, if any  [01 step 6] [003 B MOVEM]
+unfoldable pub block-room : View → Plan → Flow
+block-room v p = room-list v (room-way p) (p .f) .f
+
+-- the low sixteen bits in the other order: the list of -(An) begins with A7  [003 B MOVEM]
+abbrev pub mirrored-byte : ℕ → ℕ
+mirrored-byte x = x % 2 * 128 + x / 2 % 2 * 64 + x / 4 % 2 * 32 + x / 8 % 2 * 16 + x / 16 % 2 * 8 + x / 32 % 2 * 4 + x / 64 % 2 * 2 + x / 128 % 2
+
+unfoldable pub mirrored : ℕ → ℕ
+mirrored x = mirrored-byte x * 256 + mirrored-byte (x / 256)
+
+-- a plan's block as it is stored. That of -(An) goes upward too, from where An ended: no two of its parts meet, so that memory is the
+-- same as after 003's order  [003 B MOVEM] [01 Operands]
+unfoldable pub put-way : List ℕ → Plan → Way
+put-way r p =
+    let z = 1 + p .z % 2 in
+    pick (eqb (p .z / 2) 3) (record { z = z; list = mirrored (p .v); start = get r (p .v / 65536); step = 2 * z }) (room-way p)
+
+-- register i as MOVEM stores it: the one that -(An) lowered, `own`, by its first value  [01 Operands]
+unfoldable pub stored : List ℕ → ℕ → ℕ → ℕ → ℕ
+stored r first own i = pick (eqb i own) first (get r i)
+
+-- the bytes of a long, high byte first, each as the low byte of a number  [003 B MOVEP]
+unfoldable pub byte-of : ℕ → ℕ → ℕ
+byte-of v j = getD (v / 16777216 ∷ v / 65536 ∷ v / 256 ∷ []) j v
+
+-- what a block has at place k of its list: MOVEM's register k, MOVEP's byte k, of which a word has only the last two  [003 B MOVEM] [003 B MOVEP]
+unfoldable pub part-of : List ℕ → Plan → ℕ → ℕ
+part-of r p k = pick (leb 8 (p .z)) (byte-of (p .v) (k % 16 + 2 - p .z % 2 * 2)) (stored r (p .at) (p .v / 65536) k)
+
+-- memory after one part of a block, if the list has it  [003 B MOVEM] [003 B MOVEP]
+unfoldable pub put-part : List ℕ → Plan → Way → Spot → List ℕ → List ℕ
+put-part r p w d m = pick (listed d) (put-sized m (d .a) (w .z) (part-of r p (d .k))) m
+
+-- memory on the way, and where the walk stands  [ours]
+pub record Putting : Type 0 where
+  pub m : List ℕ
+  pub d : Spot
+
+unfoldable pub put-one : List ℕ → Plan → Way → Putting → Putting
+put-one r p w t = record { m = put-part r p w (t .d) (t .m); d = next-spot w (t .d) (p .f) }
+
+-- memory after a block's writes  [003 B MOVEM] [003 B MOVEP]
+unfoldable pub block-put : List ℕ → List ℕ → Plan → List ℕ
+block-put m r p = let w = put-way r p in iter (put-one r p w) 16 (record { m = m; d = first-spot w (p .f) }) .m

@@ -1,0 +1,332 @@
+// lib.rt - MOVEM: lists of registers walked to load them, to ask for room and to store them; MOVEP's store is such a walk over bytes.
+// Means: specs/Movem.antt.  Laws: proofs/MovemLaws.antt, proofs/BlockLaws.antt.
+// Uses: bits, bus, operand, plan, store, touch.  Source: [003 B MOVEM], [003 B MOVEP], [01 step 6], [01 Operands].
+ghost use mathlib.Core.Path.{_≡_};
+ghost use Prim.Native.Nat.{ℕ, _+_, _*_, _%_, _/_, _<_, _≤_};
+ghost use lib.ListN.{length};
+ghost use lib.Count.{onesIn};
+ghost use Rattle.bus.specs.Bus.{view-of};
+ghost use Rattle.touch.specs.Touch.{LogOk, Noted};
+ghost use Rattle.movem.specs.Movem.{first-spot, next-spot, load-one, load-list, movem-to-registers, movem-down, movem-to-memory};
+ghost use Rattle.movem.specs.Movem.{room-way, room-one, room-list, block-room, mirrored-byte, mirrored, put-way, stored, byte-of, part-of, put-part, block-put};
+use bus::Flow;
+use plan::Plan;
+
+// How a list of 16 bits is walked, lowest bit first: the size of each part that it has, the list, the address of its first part,
+// and the way from one part to the next.
+pub struct Way {
+    pub z: u32,
+    pub list: u32,
+    pub start: u32,
+    pub step: u32,
+}
+
+// Where a walk stands: what is left of the list, the place of its lowest bit, the address, the flow.
+pub struct Spot {
+    pub list: u32,
+    pub k: u32,
+    pub a: u32,
+    pub f: Flow,
+}
+
+fn first_spot(w: Way, f: Flow) -> Spot
+    ensures { λ d. ⌜ d ≡ first-spot w f ⌝ }
+{
+    Spot {
+        list: w.list,
+        k: 0,
+        a: w.start,
+        f,
+    }
+}
+
+fn next_spot(w: Way, d: Spot, f: Flow) -> Spot
+    ensures { λ e. ⌜ e ≡ next-spot w d f ⌝ }
+{
+    let on = d.list % 2 == 1;
+    let next = std::num::wrapping_add_u32(d.k, 1);
+    if on {
+        return Spot {
+            list: d.list / 2,
+            k: next,
+            a: std::num::wrapping_add_u32(d.a, w.step),
+            f,
+        };
+    }
+    Spot {
+        list: d.list / 2,
+        k: next,
+        a: d.a,
+        f,
+    }
+}
+
+// Register k is loaded if the list has it; a word is carried on to 32 bits.
+fn load_one(r: &mut [u32; 17], mem: &[u8], k: u32, w: Way, d: Spot) -> Spot
+    ensures { λ e. ⌜ e ≡ load-one (view-of (now (mem .entry))) k w (record { r = now (r .entry); d = d }) .d ⌝ }
+    ensures { λ e. ⌜ now (r .exit) ≡ load-one (view-of (now (mem .entry))) k w (record { r = now (r .entry); d = d }) .r ⌝ }
+{
+    let f = d.f;
+    let on = d.list % 2 == 1;
+    if on {
+        let x = bus::read_sized(mem, d.a, w.z, k, f);
+        let g = x.f;
+        operand::put(r, d.k, bits::sign_extended(x.v, w.z));
+        return next_spot(w, d, g);
+    }
+    next_spot(w, d, f)
+}
+
+fn load_list(r: &mut [u32; 17], mem: &[u8], k: u32, w: Way, f: Flow) -> Spot
+    ensures { λ e. ⌜ e ≡ load-list (now (r .entry)) (view-of (now (mem .entry))) k w f .d ⌝ }
+    ensures { λ e. ⌜ now (r .exit) ≡ load-list (now (r .entry)) (view-of (now (mem .entry))) k w f .r ⌝ }
+{
+    let mut d = first_spot(w, f);
+    let mut j: u32 = 0;
+    while j < 16 {
+        d = load_one(r, mem, k, w, d);
+        j += 1;
+    }
+    d
+}
+
+// The address is formed once, before any load. (An)+, the only mode here that steps, leaves An at the final address.
+pub fn movem_to_registers(r: &mut [u32; 17], mem: &[u8], op: u32, f: Flow) -> Plan
+    ensures { λ p. ⌜ p ≡ movem-to-registers (now (r .entry)) (view-of (now (mem .entry))) op f .p ⌝ }
+    ensures { λ p. ⌜ now (r .exit) ≡ movem-to-registers (now (r .entry)) (view-of (now (mem .entry))) op f .r ⌝ }
+{
+    let z = 1 + op / 64 % 2;
+    let l = bus::next_word(mem, f);
+    let g = l.f;
+    let q = operand::locate(r, mem, op / 8 % 8, op % 8, z, g);
+    let h = q.f;
+    let w = Way {
+        z,
+        list: l.v,
+        start: q.at,
+        step: 2 * z,
+    };
+    let d = load_list(r, mem, q.k, w, h);
+    let e = d.f;
+    operand::put(r, q.reg, d.a);
+    plan::nothing(e)
+}
+
+// How many registers a list has.
+fn ones_of(list: u32) -> u32
+    ensures { λ n. ⌜ (n ≡ onesIn 16 list) × (n ≤ 16) ⌝ }
+{
+    let mut rest = list;
+    let mut n: u32 = 0;
+    let mut j: u32 = 0;
+    while j < 16 {
+        n += rest % 2;
+        rest /= 2;
+        j += 1;
+    }
+    n
+}
+
+// MOVEM to -(An): the plan has An's first value, the bank its last.
+fn movem_down(r: &mut [u32; 17], list: u32, op: u32, f: Flow) -> Plan
+    ensures { λ p. ⌜ p ≡ movem-down (now (r .entry)) list op f .p ⌝ }
+    ensures { λ p. ⌜ now (r .exit) ≡ movem-down (now (r .entry)) list op f .r ⌝ }
+{
+    let i = 8 + op % 8;
+    let a = operand::get(r, i);
+    let n = ones_of(list);
+    operand::put(r, i, bits::minus(a, n * 2 * (1 + op / 64 % 2)));
+    plan::writing(6 + op / 64 % 2, a, list % 65536 + 65536 * i, f)
+}
+
+pub fn movem_to_memory(r: &mut [u32; 17], mem: &[u8], op: u32, f: Flow) -> Plan
+    ensures { λ p. ⌜ p ≡ movem-to-memory (now (r .entry)) (view-of (now (mem .entry))) op f .p ⌝ }
+    ensures { λ p. ⌜ now (r .exit) ≡ movem-to-memory (now (r .entry)) (view-of (now (mem .entry))) op f .r ⌝ }
+{
+    let l = bus::next_word(mem, f);
+    let g = l.f;
+    let down = op / 8 % 8 == 4;
+    if down {
+        return movem_down(r, l.v, op, g);
+    }
+    let q = operand::locate(r, mem, op / 8 % 8, op % 8, 1 + op / 64 % 2, g);
+    let h = q.f;
+    plan::writing(4 + op / 64 % 2, q.at, l.v + 65536 * 17, h)
+}
+
+// A plan's block as its room is asked: upward, downward from A7, every other byte.
+fn room_way(p: Plan) -> Way
+    ensures { λ w. ⌜ w ≡ room-way p ⌝ }
+{
+    let z = 1 + p.z % 2;
+    let list = p.v % 65536;
+    let up = p.z / 2 == 2;
+    let down = p.z / 2 == 3;
+    if up {
+        return Way {
+            z,
+            list,
+            start: p.at,
+            step: 2 * z,
+        };
+    }
+    if down {
+        return Way {
+            z,
+            list,
+            start: bits::minus(p.at, 2 * z),
+            step: bits::minus(0, 2 * z),
+        };
+    }
+    Way {
+        z: 0,
+        list: 3 + p.z % 2 * 12,
+        start: p.at,
+        step: 2,
+    }
+}
+
+fn room_one(mem: &[u8], w: Way, d: Spot) -> Spot
+    ensures { λ e. ⌜ e ≡ room-one (view-of (now (mem .entry))) w d ⌝ }
+{
+    let f = d.f;
+    let on = d.list % 2 == 1;
+    if on {
+        let g = bus::room(mem, d.a, w.z, f);
+        return next_spot(w, d, g);
+    }
+    next_spot(w, d, f)
+}
+
+fn room_list(mem: &[u8], w: Way, f: Flow) -> Spot
+    ensures { λ e. ⌜ e ≡ room-list (view-of (now (mem .entry))) w f ⌝ }
+{
+    let mut d = first_spot(w, f);
+    let mut j: u32 = 0;
+    while j < 16 {
+        d = room_one(mem, w, d);
+        j += 1;
+    }
+    d
+}
+
+// The flow with the fault that the block's writes meet first, if any.
+pub fn block_room(mem: &[u8], p: Plan) -> Flow
+    ensures { λ g. ⌜ g ≡ block-room (view-of (now (mem .entry))) p ⌝ }
+{
+    let f = p.f;
+    let d = room_list(mem, room_way(p), f);
+    d.f
+}
+
+fn mirrored_byte(x: u32) -> u32
+    ensures { λ y. ⌜ (y ≡ mirrored-byte x) × (y < 256) ⌝ }
+{
+    x % 2 * 128
+        + x / 2 % 2 * 64
+        + x / 4 % 2 * 32
+        + x / 8 % 2 * 16
+        + x / 16 % 2 * 8
+        + x / 32 % 2 * 4
+        + x / 64 % 2 * 2
+        + x / 128 % 2
+}
+
+// The low sixteen bits in the other order.
+fn mirrored(x: u32) -> u32
+    ensures { λ y. ⌜ y ≡ mirrored x ⌝ }
+{
+    mirrored_byte(x) * 256 + mirrored_byte(x / 256)
+}
+
+// A plan's block as it is stored, always upward: for -(An) from where An ended.
+fn put_way(r: &[u32; 17], p: Plan) -> Way
+    ensures { λ w. ⌜ w ≡ put-way (now (r .entry)) p ⌝ }
+{
+    let z = 1 + p.z % 2;
+    let down = p.z / 2 == 3;
+    if down {
+        return Way {
+            z,
+            list: mirrored(p.v),
+            start: operand::get(r, p.v / 65536),
+            step: 2 * z,
+        };
+    }
+    room_way(p)
+}
+
+// Register i as MOVEM stores it: the one that -(An) lowered, `own`, by its first value.
+fn stored(r: &[u32; 17], first: u32, own: u32, i: u32) -> u32
+    ensures { λ v. ⌜ v ≡ stored (now (r .entry)) first own i ⌝ }
+{
+    let same = i == own;
+    if same {
+        return first;
+    }
+    operand::get(r, i)
+}
+
+// The bytes of a long, high byte first, each as the low byte of a number.
+fn byte_of(v: u32, j: u32) -> u32
+    ensures { λ b. ⌜ b ≡ byte-of v j ⌝ }
+{
+    match j {
+        0 => v / 16777216,
+        1 => v / 65536,
+        2 => v / 256,
+        _ => v,
+    }
+}
+
+// What a block has at place k of its list.
+fn part_of(r: &[u32; 17], p: Plan, k: u32) -> u32
+    ensures { λ v. ⌜ v ≡ part-of (now (r .entry)) p k ⌝ }
+{
+    let bytes = 8 <= p.z;
+    if bytes {
+        return byte_of(p.v, k % 16 + 2 - p.z % 2 * 2);
+    }
+    stored(r, p.at, p.v / 65536, k)
+}
+
+// One part of a block, if the list has it, is noted in the log and put; how many entries the log then has.
+fn store_part(
+    memory: &mut [u8],
+    log: &mut [u64],
+    n: usize,
+    r: &[u32; 17],
+    p: Plan,
+    w: Way,
+    d: Spot,
+) -> usize
+    requires { ⌜ LogOk (now memory) (now log) n × (n + 4 ≤ length (now log)) ⌝ }
+    ensures memory { λ _. ⌜ now (memory .exit) ≡ put-part (now (r .entry)) p w d (now (memory .entry)) ⌝ }
+    ensures noted { λ m. ⌜ Noted (now (memory .entry)) (now (log .entry)) n 4 (now (memory .exit)) (now (log .exit)) m ⌝ }
+{
+    let on = d.list % 2 == 1;
+    if on {
+        let v = part_of(r, p, d.k);
+        return store::store_sized(memory, log, n, d.a, w.z, v);
+    }
+    n
+}
+
+// The writes of a block, noted; how many entries the log then has.
+pub fn block_store(memory: &mut [u8], log: &mut [u64], n: usize, r: &[u32; 17], p: Plan) -> usize
+    requires { ⌜ LogOk (now memory) (now log) n × (n + 64 ≤ length (now log)) ⌝ }
+    ensures memory { λ _. ⌜ now (memory .exit) ≡ block-put (now (memory .entry)) (now (r .entry)) p ⌝ }
+    ensures noted { λ m. ⌜ Noted (now (memory .entry)) (now (log .entry)) n 64 (now (memory .exit)) (now (log .exit)) m ⌝ }
+{
+    let f = p.f;
+    let w = put_way(r, p);
+    let mut d = first_spot(w, f);
+    let mut m = n;
+    let mut j: u32 = 0;
+    while j < 16 {
+        m = store_part(memory, log, m, r, p, w, d);
+        d = next_spot(w, d, f);
+        j += 1;
+    }
+    m
+}

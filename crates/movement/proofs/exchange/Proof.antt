@@ -1,0 +1,10 @@
+use Rattle.movement.proofs.MovementLaws.{exchange-plan, exchange-registers}
+use borrow.Author.Needs.{needs}
+use Rattle.movement.proofs.exchange.Statement.{statement}
+use Rattle.movement.proofs.exchange.Tie as tie
+
+pub exchange-spec : {M : Type 1} → statement M
+exchange-spec =
+    tie.close (tie.spec
+    (λ c κs. search needs) (λ c κs. search needs) (λ c κs. search needs) (λ c κs. search needs) (λ c κs. search needs)
+    (λ c. (search exchange-plan, search exchange-registers)))

@@ -1,0 +1,240 @@
+// lib.rt - the instructions that move data: MOVE, MOVEA, MOVEQ, LEA, PEA, EXG, SWAP, LINK, UNLK, MOVEP. MOVEM is crate movem.
+// Means: specs/Movement.antt.  Laws: proofs/MovementLaws.antt.
+// Uses: bits, bus, operand, flags, alu, plan.  Source: [003 3.2], [003 B], [01 step 6], [01 Operands].
+ghost use mathlib.Core.Path.{_≡_};
+ghost use Prim.Native.Nat.{ℕ, _+_, _*_, _%_, _/_, _<_, _≤_};
+ghost use Rattle.bits.specs.Bits.{minus};
+ghost use Rattle.bus.specs.Bus.{view-of};
+ghost use Rattle.operand.specs.Operands.{get, put};
+ghost use Rattle.movement.specs.Movement.{move-size, move-operands, move-data, move-address, move-quick, load-address, push-address, exchange, exchange-data, exchange-address, exchange-both, swap, link, unlink, every-other-word, every-other, movep-to-register, movep-to-memory};
+use bus::Fetched;
+use bus::Flow;
+use operand::Both;
+use operand::Operand;
+use plan::Plan;
+
+// MOVE and MOVEA say their size in another code than the rest.
+fn move_size(op: u32) -> u32
+    ensures { λ z. ⌜ z ≡ move-size op ⌝ }
+{
+    let byte = op / 4096 == 1;
+    let word = op / 4096 == 3;
+    if byte {
+        return 0;
+    }
+    if word {
+        return 1;
+    }
+    2
+}
+
+// The source's value, and the destination's place with its register stepped. All extension words come before the source is read, and
+// the source's step before the destination's address. The source is read before the destination's step: MOVE.L A0,-(A0) stores the
+// first value.
+fn move_operands(r: &mut [u32; 17], mem: &[u8], op: u32, z: u32, f: Flow) -> Both
+    ensures { λ b. ⌜ b ≡ move-operands (now (r .entry)) (view-of (now (mem .entry))) op z f .b ⌝ }
+    ensures { λ b. ⌜ now (r .exit) ≡ move-operands (now (r .entry)) (view-of (now (mem .entry))) op z f .r ⌝ }
+{
+    let s = operand::target(r, mem, op / 8 % 8, op % 8, z, f);
+    let sf = s.f;
+    let q = operand::locate(r, mem, op / 64 % 8, op / 512 % 8, z, sf);
+    let qf = q.f;
+    let w = operand::load(r, mem, s, z, qf);
+    let wf = w.f;
+    operand::put(r, q.reg, q.step);
+    let d = Operand {
+        kind: q.kind,
+        at: q.at,
+        k: q.k,
+        reg: q.reg,
+        step: q.step,
+        f: wf,
+    };
+    Both { v: w.v, q: d }
+}
+
+pub fn move_data(r: &mut [u32; 17], mem: &[u8], op: u32, f: Flow) -> Plan
+    ensures { λ p. ⌜ p ≡ move-data (now (r .entry)) (view-of (now (mem .entry))) op f .p ⌝ }
+    ensures { λ p. ⌜ now (r .exit) ≡ move-data (now (r .entry)) (view-of (now (mem .entry))) op f .r ⌝ }
+{
+    let z = move_size(op);
+    let b = move_operands(r, mem, op, z, f);
+    let q = b.q;
+    plan::finish(r, q, z, alu::moved(b.v, f.sr, z))
+}
+
+pub fn move_address(r: &mut [u32; 17], mem: &[u8], op: u32, f: Flow) -> Plan
+    ensures { λ p. ⌜ p ≡ move-address (now (r .entry)) (view-of (now (mem .entry))) op f .p ⌝ }
+    ensures { λ p. ⌜ now (r .exit) ≡ move-address (now (r .entry)) (view-of (now (mem .entry))) op f .r ⌝ }
+{
+    let z = move_size(op);
+    let w = operand::source(r, mem, op / 8 % 8, op % 8, z, f);
+    let g = w.f;
+    operand::put(r, 8 + op / 512 % 8, bits::sign_extended(w.v, z));
+    plan::nothing(g)
+}
+
+pub fn move_quick(r: &mut [u32; 17], mem: &[u8], op: u32, f: Flow) -> Plan
+    ensures { λ p. ⌜ p ≡ move-quick (now (r .entry)) (view-of (now (mem .entry))) op f .p ⌝ }
+    ensures { λ p. ⌜ now (r .exit) ≡ move-quick (now (r .entry)) (view-of (now (mem .entry))) op f .r ⌝ }
+{
+    let a = alu::moved(bits::sign_byte(op), f.sr, 2);
+    operand::put(r, op / 512 % 8, a.v);
+    plan::nothing(plan::flagged(f, a.c))
+}
+
+pub fn load_address(r: &mut [u32; 17], mem: &[u8], op: u32, f: Flow) -> Plan
+    ensures { λ p. ⌜ p ≡ load-address (now (r .entry)) (view-of (now (mem .entry))) op f .p ⌝ }
+    ensures { λ p. ⌜ now (r .exit) ≡ load-address (now (r .entry)) (view-of (now (mem .entry))) op f .r ⌝ }
+{
+    let q = operand::locate(r, mem, op / 8 % 8, op % 8, 2, f);
+    let g = q.f;
+    operand::put(r, 8 + op / 512 % 8, q.at);
+    plan::nothing(g)
+}
+
+// The address is formed before A7 falls.
+pub fn push_address(r: &mut [u32; 17], mem: &[u8], op: u32, f: Flow) -> Plan
+    ensures { λ p. ⌜ p ≡ push-address (now (r .entry)) (view-of (now (mem .entry))) op f .p ⌝ }
+    ensures { λ p. ⌜ now (r .exit) ≡ push-address (now (r .entry)) (view-of (now (mem .entry))) op f .r ⌝ }
+{
+    let q = operand::locate(r, mem, op / 8 % 8, op % 8, 2, f);
+    let g = q.f;
+    plan::push(r, q.at, g)
+}
+
+// EXG of registers i and j.
+fn exchange(r: &mut [u32; 17], i: u32, j: u32, f: Flow) -> Plan
+    ensures { λ p. ⌜ p ≡ exchange (now (r .entry)) i j f .p ⌝ }
+    ensures { λ p. ⌜ now (r .exit) ≡ exchange (now (r .entry)) i j f .r ⌝ }
+{
+    let x = operand::get(r, i);
+    let y = operand::get(r, j);
+    operand::put(r, i, y);
+    operand::put(r, j, x);
+    plan::nothing(f)
+}
+
+pub fn exchange_data(r: &mut [u32; 17], mem: &[u8], op: u32, f: Flow) -> Plan
+    ensures { λ p. ⌜ p ≡ exchange-data (now (r .entry)) (view-of (now (mem .entry))) op f .p ⌝ }
+    ensures { λ p. ⌜ now (r .exit) ≡ exchange-data (now (r .entry)) (view-of (now (mem .entry))) op f .r ⌝ }
+{
+    exchange(r, op / 512 % 8, op % 8, f)
+}
+
+pub fn exchange_address(r: &mut [u32; 17], mem: &[u8], op: u32, f: Flow) -> Plan
+    ensures { λ p. ⌜ p ≡ exchange-address (now (r .entry)) (view-of (now (mem .entry))) op f .p ⌝ }
+    ensures { λ p. ⌜ now (r .exit) ≡ exchange-address (now (r .entry)) (view-of (now (mem .entry))) op f .r ⌝ }
+{
+    exchange(r, 8 + op / 512 % 8, 8 + op % 8, f)
+}
+
+pub fn exchange_both(r: &mut [u32; 17], mem: &[u8], op: u32, f: Flow) -> Plan
+    ensures { λ p. ⌜ p ≡ exchange-both (now (r .entry)) (view-of (now (mem .entry))) op f .p ⌝ }
+    ensures { λ p. ⌜ now (r .exit) ≡ exchange-both (now (r .entry)) (view-of (now (mem .entry))) op f .r ⌝ }
+{
+    exchange(r, op / 512 % 8, 8 + op % 8, f)
+}
+
+pub fn swap(r: &mut [u32; 17], mem: &[u8], op: u32, f: Flow) -> Plan
+    ensures { λ p. ⌜ p ≡ swap (now (r .entry)) (view-of (now (mem .entry))) op f .p ⌝ }
+    ensures { λ p. ⌜ now (r .exit) ≡ swap (now (r .entry)) (view-of (now (mem .entry))) op f .r ⌝ }
+{
+    let a = alu::swapped(operand::get(r, op % 8), f.sr);
+    operand::put(r, op % 8, a.v);
+    plan::nothing(plan::flagged(f, a.c))
+}
+
+// A7 falls by 4, and is answered.
+fn lowered(r: &mut [u32; 17]) -> u32
+    ensures { λ a. ⌜ a ≡ minus (get (now (r .entry)) 15) 4 ⌝ }
+    ensures { λ a. ⌜ now (r .exit) ≡ put (now (r .entry)) 15 a ⌝ }
+{
+    let a = bits::minus(operand::get(r, 15), 4);
+    operand::put(r, 15, a);
+    a
+}
+
+// What is stored is An after A7 fell: LINK A7 stores A7 already lowered.
+pub fn link(r: &mut [u32; 17], mem: &[u8], op: u32, f: Flow) -> Plan
+    ensures { λ p. ⌜ p ≡ link (now (r .entry)) (view-of (now (mem .entry))) op f .p ⌝ }
+    ensures { λ p. ⌜ now (r .exit) ≡ link (now (r .entry)) (view-of (now (mem .entry))) op f .r ⌝ }
+{
+    let w = bus::next_word(mem, f);
+    let g = w.f;
+    let a = lowered(r);
+    let v = operand::get(r, 8 + op % 8);
+    operand::put(r, 8 + op % 8, a);
+    operand::put(r, 15, std::num::wrapping_add_u32(a, bits::sign_word(w.v)));
+    plan::writing(2, a, v, g)
+}
+
+// A7 is put before An: UNLK A7 leaves the long that was read.
+pub fn unlink(r: &mut [u32; 17], mem: &[u8], op: u32, f: Flow) -> Plan
+    ensures { λ p. ⌜ p ≡ unlink (now (r .entry)) (view-of (now (mem .entry))) op f .p ⌝ }
+    ensures { λ p. ⌜ now (r .exit) ≡ unlink (now (r .entry)) (view-of (now (mem .entry))) op f .r ⌝ }
+{
+    let a = operand::get(r, 8 + op % 8);
+    let w = bus::read_long(mem, a, 17, f);
+    let g = w.f;
+    operand::put(r, 15, std::num::wrapping_add_u32(a, 4));
+    operand::put(r, 8 + op % 8, w.v);
+    plan::nothing(g)
+}
+
+// The bytes at a and a + 2 as a word.
+fn every_other_word(mem: &[u8], a: u32, f: Flow) -> Fetched
+    ensures { λ w. ⌜ w ≡ every-other-word (view-of (now (mem .entry))) a f ⌝ }
+    ensures { λ w. ⌜ w .v < 65536 ⌝ }
+{
+    let h = bus::read_byte(mem, a, 17, f);
+    let hf = h.f;
+    let l = bus::read_byte(mem, std::num::wrapping_add_u32(a, 2), 17, hf);
+    let lf = l.f;
+    Fetched {
+        v: h.v * 256 + l.v,
+        f: lf,
+    }
+}
+
+// A word or, if z is 2, a long of bytes that stand at every other address from a on.
+fn every_other(mem: &[u8], a: u32, z: u32, f: Flow) -> Fetched
+    ensures { λ w. ⌜ w ≡ every-other (view-of (now (mem .entry))) a z f ⌝ }
+{
+    let h = every_other_word(mem, a, f);
+    let hf = h.f;
+    let long = z == 2;
+    if long {
+        let l = every_other_word(mem, std::num::wrapping_add_u32(a, 4), hf);
+        let lf = l.f;
+        return Fetched {
+            v: h.v * 65536 + l.v,
+            f: lf,
+        };
+    }
+    h
+}
+
+pub fn movep_to_register(r: &mut [u32; 17], mem: &[u8], op: u32, f: Flow) -> Plan
+    ensures { λ p. ⌜ p ≡ movep-to-register (now (r .entry)) (view-of (now (mem .entry))) op f .p ⌝ }
+    ensures { λ p. ⌜ now (r .exit) ≡ movep-to-register (now (r .entry)) (view-of (now (mem .entry))) op f .r ⌝ }
+{
+    let z = 1 + op / 64 % 2;
+    let q = operand::locate(r, mem, 5, op % 8, z, f);
+    let qf = q.f;
+    let w = every_other(mem, q.at, z, qf);
+    let wf = w.f;
+    operand::put_low(r, op / 512 % 8, z, w.v);
+    plan::nothing(wf)
+}
+
+pub fn movep_to_memory(r: &mut [u32; 17], mem: &[u8], op: u32, f: Flow) -> Plan
+    ensures { λ p. ⌜ p ≡ movep-to-memory (now (r .entry)) (view-of (now (mem .entry))) op f .p ⌝ }
+    ensures { λ p. ⌜ now (r .exit) ≡ movep-to-memory (now (r .entry)) (view-of (now (mem .entry))) op f .r ⌝ }
+{
+    let z = 1 + op / 64 % 2;
+    let q = operand::locate(r, mem, 5, op % 8, z, f);
+    let g = q.f;
+    let v = bits::cut(operand::get(r, op / 512 % 8) as u64, z);
+    plan::writing(7 + z, q.at, v, g)
+}
