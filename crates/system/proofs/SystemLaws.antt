@@ -1,5 +1,5 @@
 -- SystemLaws.antt - one law for each return of the functions of system: the plan, and the registers where they change.
--- status-is; register-moved; immediate-to-ccr-is, immediate-to-sr-is; move-from-sr-..; move-to-ccr-..; move-to-sr-..; return-exception-..; stop-stopping, stop-refused; trap-over, trap-none; check-..
+-- register-moved; immediate-to-ccr-is, immediate-to-sr-is; move-from-sr-..; move-to-ccr-..; move-to-sr-..; return-exception-..; stop-stopping, stop-refused; trap-over, trap-none; check-..
 -- Uses: bits, flags, alu, bus, operand, plan.
 use Prim.Native.Nat.{ℕ, _+_, _%_, _/_}
 use mathlib.Core.Path.{_≡_}
@@ -8,7 +8,7 @@ use mathlib.Core.List.{List}
 use lib.Dec.{eqb}
 use Rattle.bits.specs.Bits.{minus}
 use Rattle.flags.specs.declared.Flagged.{Flagged}
-use Rattle.flags.specs.Flags.{v-of, sr-bits}
+use Rattle.flags.specs.Flags.{v-of}
 use Rattle.alu.specs.Alu.{check}
 use Rattle.bus.specs.declared.Flow.{Flow}
 use Rattle.bus.specs.declared.Fetched.{Fetched}
@@ -17,10 +17,7 @@ use Rattle.operand.specs.declared.Both.{Both}
 use Rattle.operand.specs.Operands.{get, put, source, modify}
 use Rattle.plan.specs.declared.Plan.{Plan}
 use Rattle.plan.specs.Plans.{flagged, jump, nothing, trapping, refusing, stopping, finish}
-use Rattle.system.specs.System.{logic, status, immediate-to-ccr-plan, immediate-to-sr-plan, move-from-sr, move-to-ccr, move-to-sr, return-exception, stop-plan, trap-overflow-plan, check-bounds}
-
-pub status-is : (f g : Flow) (x sr : ℕ) → x ≡ sr-bits sr → g ≡ with-sr f x → g ≡ status f sr
-status-is f g x sr e d = cc
+use Rattle.system.specs.System.{logic, immediate-to-ccr-plan, immediate-to-sr-plan, move-from-sr, move-to-ccr, move-to-sr, return-exception, stop-plan, trap-overflow-plan, check-bounds}
 
 -- MOVE USP, either way
 pub register-moved : (r t : List ℕ) (i j x : ℕ) → x ≡ get r j → t ≡ put r i x → t ≡ put r i (get r j)
@@ -32,7 +29,7 @@ module _ (which : ℕ) (v : View) (f g : Flow) (p : Plan) (w : Fetched) (x : ℕ
   unfolding immediate-to-ccr-plan
   immediate-to-ccr-is e3 e4 = cc
 
-  pub immediate-to-sr-is : g ≡ status (w .f) x → p ≡ nothing g → p ≡ immediate-to-sr-plan which v f
+  pub immediate-to-sr-is : g ≡ with-sr (w .f) x → p ≡ nothing g → p ≡ immediate-to-sr-plan which v f
   unfolding immediate-to-sr-plan
   immediate-to-sr-is e3 e4 = cc
 
@@ -68,7 +65,7 @@ module _ (r t : List ℕ) (v : View) (op : ℕ) (f : Flow) where
     unfolding move-to-ccr
     move-to-ccr-plan e2 e3 = cc
 
-    pub move-to-sr-plan : g ≡ status (w .f) (w .v) → p ≡ nothing g → p ≡ move-to-sr r v op f .p
+    pub move-to-sr-plan : g ≡ with-sr (w .f) (w .v) → p ≡ nothing g → p ≡ move-to-sr r v op f .p
     unfolding move-to-sr
     move-to-sr-plan e2 e3 = cc
 
@@ -83,7 +80,7 @@ module _ (r t : List ℕ) (v : View) (op : ℕ) (f : Flow) where
 
 -- RTE
 module _ (r t : List ℕ) (v : View) (op : ℕ) (f : Flow) (s : Fetched) (e1 : s ≡ source r v 3 7 1 f .w) (e2 : t ≡ source r v 3 7 1 f .r) where
-  pub return-exception-plan : (p : Plan) (w : Fetched) (g h : Flow) → w ≡ source t v 3 7 2 (s .f) .w → g ≡ status (w .f) (s .v) → h ≡ jump g (w .v) → p ≡ nothing h → p ≡ return-exception r v op f .p
+  pub return-exception-plan : (p : Plan) (w : Fetched) (g h : Flow) → w ≡ source t v 3 7 2 (s .f) .w → g ≡ with-sr (w .f) (s .v) → h ≡ jump g (w .v) → p ≡ nothing h → p ≡ return-exception r v op f .p
   unfolding return-exception
   return-exception-plan p w g h e3 e4 e5 e6 = cc
 
@@ -93,7 +90,7 @@ module _ (r t : List ℕ) (v : View) (op : ℕ) (f : Flow) (s : Fetched) (e1 : s
 
 -- STOP
 module _ (v : View) (f : Flow) (p : Plan) (w : Fetched) (e1 : w ≡ next-word v f) where
-  pub stop-stopping : (g : Flow) → eqb (w .v / 8192 % 2) 1 ≡ true → g ≡ status (w .f) (w .v) → p ≡ stopping g → p ≡ stop-plan v f
+  pub stop-stopping : (g : Flow) → eqb (w .v / 8192 % 2) 1 ≡ true → g ≡ with-sr (w .f) (w .v) → p ≡ stopping g → p ≡ stop-plan v f
   unfolding stop-plan
   stop-stopping g t e2 e3 = cc
 
