@@ -15,10 +15,6 @@ use Rattle.operand.specs.Operands.{get, put, address, source, modify}
 use Rattle.plan.specs.declared.Plan.{Plan}
 use Rattle.plan.specs.Plans.{Done, flagged, jump, nothing, trapping, refusing, stopping, finish}
 
--- an instruction that changes no register  [ours]
-abbrev pub unchanged : List ℕ → Plan → Done
-unchanged r p = record { r = r; p = p }
-
 -- AND, OR and EOR, as 0, 1 and 2  [ours]
 unfoldable pub logic : ℕ → ℕ → ℕ → ℕ
 logic which a b = getD (bitAnd a b ∷ bitOr a b ∷ []) which (bitXor a b)
@@ -28,14 +24,14 @@ unfoldable pub immediate-to-ccr-plan : ℕ → View → Flow → Plan
 immediate-to-ccr-plan which v f = let w = next-word v f in nothing (flagged (w .f) (logic which (f .sr) (w .v)))
 
 abbrev pub immediate-to-ccr : ℕ → List ℕ → View → ℕ → Flow → Done
-immediate-to-ccr which r v op f = unchanged r (immediate-to-ccr-plan which v f)
+immediate-to-ccr which r v op f = record { r = r; p = immediate-to-ccr-plan which v f }
 
 -- ANDI, ORI, EORI to SR: all of SR  [003 B ANDI to SR] [003 B ORI to SR] [003 B EORI to SR]
 unfoldable pub immediate-to-sr-plan : ℕ → View → Flow → Plan
 immediate-to-sr-plan which v f = let w = next-word v f in nothing (with-sr (w .f) (logic which (f .sr) (w .v)))
 
 abbrev pub immediate-to-sr : ℕ → List ℕ → View → ℕ → Flow → Done
-immediate-to-sr which r v op f = unchanged r (immediate-to-sr-plan which v f)
+immediate-to-sr which r v op f = record { r = r; p = immediate-to-sr-plan which v f }
 
 -- MOVE from SR: a word; a memory destination is read first; the flags are the old ones  [003 B MOVE from SR] [01 step 7]
 unfoldable pub move-from-sr : List ℕ → View → ℕ → Flow → Done
@@ -64,7 +60,7 @@ move-from-usp r v op f = record { r = put r (8 + op % 8) (get r 16); p = nothing
 
 -- RESET: nothing outside is modelled, and the processor's own state stays  [003 B RESET]
 abbrev pub reset-devices : List ℕ → View → ℕ → Flow → Done
-reset-devices r v op f = unchanged r (nothing f)
+reset-devices r v op f = record { r = r; p = nothing f }
 
 -- RTE: (SP)+ to SR, (SP)+ to PC, both from the stack that was active before  [003 B RTE]
 unfoldable pub return-exception : List ℕ → View → ℕ → Flow → Done
@@ -81,21 +77,21 @@ stop-plan v f =
     pick (eqb (w .v / 8192 % 2) 1) (stopping (with-sr (w .f) (w .v))) (refusing 8 (minus (f .pc) 2) (w .f))
 
 abbrev pub stop : List ℕ → View → ℕ → Flow → Done
-stop r v op f = unchanged r (stop-plan v f)
+stop r v op f = record { r = r; p = stop-plan v f }
 
 -- TRAP: vectors 32 to 47  [003 B TRAP] [01 step 2]
 abbrev pub trap-plan : ℕ → Flow → Plan
 trap-plan op f = trapping (32 + op % 16) f
 
 abbrev pub trap : List ℕ → View → ℕ → Flow → Done
-trap r v op f = unchanged r (trap-plan op f)
+trap r v op f = record { r = r; p = trap-plan op f }
 
 -- TRAPV: vector 7 if V is set  [003 B TRAPV] [01 step 2]
 unfoldable pub trap-overflow-plan : Flow → Plan
 trap-overflow-plan f = pick (v-of (f .sr)) (trapping 7 f) (nothing f)
 
 abbrev pub trap-overflow : List ℕ → View → ℕ → Flow → Done
-trap-overflow r v op f = unchanged r (trap-overflow-plan f)
+trap-overflow r v op f = record { r = r; p = trap-overflow-plan f }
 
 -- CHK: the low word of Dn against 0 and a bound; vector 6, with the flags set before SR is copied  [003 B CHK] [01 step 5]
 unfoldable pub check-bounds : List ℕ → View → ℕ → Flow → Done

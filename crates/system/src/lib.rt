@@ -2,7 +2,7 @@
 // Means: specs/System.antt.  Laws: proofs/SystemLaws.antt.
 // Uses: bits, flags, alu, bus, operand, plan.  Source: [003 3.9], [003 B], [01 step 2] to [01 step 7]. Privilege is the caller's.
 ghost use mathlib.Core.Path.{_≡_};
-ghost use Prim.Native.Nat.{ℕ, _+_, _*_, _%_, _/_, _<_, _≤_};
+ghost use Prim.Native.Nat.{_+_, _%_};
 ghost use Rattle.bus.specs.Bus.{view-of};
 ghost use Rattle.operand.specs.Operands.{get, put, address};
 ghost use Rattle.plan.specs.Plans.{nothing};
