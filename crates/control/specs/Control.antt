@@ -14,10 +14,6 @@ use Rattle.operand.specs.Operands.{get, put-low, locate, source, modify}
 use Rattle.plan.specs.declared.Plan.{Plan}
 use Rattle.plan.specs.Plans.{Done, flagged, jump, nothing, finish, push}
 
--- an instruction that changes no register  [ours]
-abbrev pub unchanged : List ℕ → Plan → Done
-unchanged r p = record { r = r; p = p }
-
 -- the displacement of a branch: the operation word's byte; where that is 0, the next word, which is read in any case. $FF is -1
 --   [003 B Bcc] [01 step 6] [01 Easy slips]
 unfoldable pub displacement : View → ℕ → Flow → Fetched
@@ -37,7 +33,7 @@ branch-plan v op f =
     jump-when (condition (f .sr) (op / 256)) (w .f) (plus (f .pc) (w .v))
 
 abbrev pub branch : List ℕ → View → ℕ → Flow → Done
-branch r v op f = unchanged r (branch-plan v op f)
+branch r v op f = record { r = r; p = branch-plan v op f }
 
 -- BSR: the next instruction's address is pushed  [003 B BSR]
 unfoldable pub branch-subroutine : List ℕ → View → ℕ → Flow → Done
@@ -55,7 +51,7 @@ decrement-branch r v op f =
     let w = next-word v f in
     let c = counted r (op % 8) in
     pick (condition (f .sr) (op / 256))
-    (unchanged r (nothing (w .f)))
+    (record { r = r; p = nothing (w .f) })
     (record { r = put-low r (op % 8) 1 c; p = jump-when (not (eqb c 65535)) (w .f) (plus (f .pc) (sign-word (w .v))) })
 
 -- Scc: a byte of ones or zeros; a memory destination is read first; the flags are the old ones  [003 B Scc] [01 step 7]
@@ -71,7 +67,7 @@ jump-plan r v op f =
     nothing (jump (q .f) (q .at))
 
 abbrev pub jump-to : List ℕ → View → ℕ → Flow → Done
-jump-to r v op f = unchanged r (jump-plan r v op f)
+jump-to r v op f = record { r = r; p = jump-plan r v op f }
 
 -- JSR: the address is formed, then the next instruction's address is pushed  [003 B JSR] [01 Operands]
 unfoldable pub jump-subroutine : List ℕ → View → ℕ → Flow → Done
@@ -81,7 +77,7 @@ jump-subroutine r v op f =
 
 -- NOP  [003 B NOP]
 abbrev pub no-operation : List ℕ → View → ℕ → Flow → Done
-no-operation r v op f = unchanged r (nothing f)
+no-operation r v op f = record { r = r; p = nothing f }
 
 -- RTR: (SP)+ to CCR, a word of which five bits count; (SP)+ to PC  [003 B RTR]
 unfoldable pub return-restore : List ℕ → View → ℕ → Flow → Done

@@ -2,11 +2,11 @@
 // Means: specs/System.antt.  Laws: proofs/SystemLaws.antt.
 // Uses: bits, flags, alu, bus, operand, plan.  Source: [003 3.9], [003 B], [01 step 2] to [01 step 7]. Privilege is the caller's.
 ghost use mathlib.Core.Path.{_≡_};
-ghost use Prim.Native.Nat.{ℕ, _+_, _*_, _%_, _/_, _<_, _≤_};
+ghost use Prim.Native.Nat.{_+_, _%_};
 ghost use Rattle.bus.specs.Bus.{view-of};
 ghost use Rattle.operand.specs.Operands.{get, put, address};
 ghost use Rattle.plan.specs.Plans.{nothing};
-ghost use Rattle.system.specs.System.{logic, status, immediate-to-ccr-plan, immediate-to-sr-plan, move-from-sr, move-to-ccr, move-to-sr, return-exception, stop-plan, trap-plan, trap-overflow-plan, check-bounds};
+ghost use Rattle.system.specs.System.{logic, immediate-to-ccr-plan, immediate-to-sr-plan, move-from-sr, move-to-ccr, move-to-sr, return-exception, stop-plan, trap-plan, trap-overflow-plan, check-bounds};
 use bus::Flow;
 use flags::Flagged;
 use plan::Plan;
@@ -20,13 +20,6 @@ fn logic(which: u32, a: u32, b: u32) -> u32
         1 => a | b,
         _ => a ^ b,
     }
-}
-
-// The flow with another status register, of which only the bits that there are count.
-fn status(f: Flow, sr: u32) -> Flow
-    ensures { λ g. ⌜ g ≡ status f sr ⌝ }
-{
-    bus::with_sr(f, flags::sr_bits(sr))
 }
 
 // ANDI, ORI, EORI to CCR.
@@ -44,7 +37,7 @@ pub fn immediate_to_sr(which: u32, mem: &[u8], f: Flow) -> Plan
 {
     let w = bus::next_word(mem, f);
     let g = w.f;
-    plan::nothing(status(g, logic(which, f.sr, w.v)))
+    plan::nothing(bus::with_sr(g, logic(which, f.sr, w.v)))
 }
 
 // MOVE from SR. The flags stay as they are.
@@ -75,7 +68,7 @@ pub fn move_to_sr(r: &mut [u32; 17], mem: &[u8], op: u32, f: Flow) -> Plan
 {
     let w = operand::source(r, mem, op / 8 % 8, op % 8, 1, f);
     let g = w.f;
-    plan::nothing(status(g, w.v))
+    plan::nothing(bus::with_sr(g, w.v))
 }
 
 // MOVE An,USP.
@@ -114,7 +107,7 @@ pub fn return_exception(r: &mut [u32; 17], mem: &[u8], op: u32, f: Flow) -> Plan
     let g = s.f;
     let t = operand::source(r, mem, 3, 7, 2, g);
     let h = t.f;
-    plan::nothing(plan::jump(status(h, s.v), t.v))
+    plan::nothing(plan::jump(bus::with_sr(h, s.v), t.v))
 }
 
 // STOP. A word with S clear is refused, once it is read.
@@ -125,7 +118,7 @@ pub fn stop(mem: &[u8], f: Flow) -> Plan
     let g = w.f;
     let supervisor = w.v / 8192 % 2 == 1;
     if supervisor {
-        return plan::stopping(status(g, w.v));
+        return plan::stopping(bus::with_sr(g, w.v));
     }
     plan::refusing(8, bits::minus(f.pc, 2), g)
 }
