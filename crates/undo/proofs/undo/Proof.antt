@@ -1,19 +1,18 @@
 -- undo: the record that was read, the two tests, and the values put back; a law for each return.
 use Prim.Native.Nat.{ℕ, _≤_}
 use native.Mathlib.Omega.{arith}
-use mathlib.Core.Path.{_≡_, sym, ap, _∙_, subst}
+use mathlib.Core.Path.{_≡_, refl, sym, _∙_, subst}
 use mathlib.Core.List.{List}
 use denote.Ref.{now}
 use lib.ListN.{length}
 use borrow.Author.Tests.{not-true, not-false}
 use Rattle.numbers.specs.Number.{back}
 use Rattle.record.specs.Limits.{slot-limit}
-use Rattle.record.specs.Change.{Ascending, changes, restore}
+use Rattle.record.specs.Change.{Ascending, changes}
 use Rattle.undo.specs.Undo.{RecordIs, shaped-record}
 use Rattle.undo.specs.declared.Last.the-variants.{Found}
-use Rattle.undo.specs.declared.Answer.the-variants.{Done}
-use Rattle.undo.proofs.ReadLaws.{record-nothing, record-there, length-back}
-use Rattle.undo.proofs.JudgeLaws.{shaped-valid, olds-of-valid, undo-mark, undo-none, undo-slots, undo-bytes, undo-all}
+use Rattle.undo.proofs.ReadLaws.{record-nothing, record-there}
+use Rattle.undo.proofs.JudgeLaws.{shaped-valid, olds-of-valid, undo-mark, undo-none, undo-slots, undo-bytes, undo-done}
 use borrow.Author.Needs.{needs}
 use Rattle.undo.proofs.undo.Statement.{statement}
 use Rattle.undo.proofs.undo.Tie as tie
@@ -113,8 +112,7 @@ returns-5 c =
     let g = c .before .before .before .before .before .before .before .before .before .before .before .before .before .slots-differ in
     let h = c .before .before .before .before .before .before .before .before .before .bytes-differ in
     rw (c .before .before .before .before .before .restore-slots .ensures, c .before .before .restore-bytes .ensures)
-    (undo-all (now (s₁ d .args .slots)) (memory d) (j d) (s₁ d .args .mark) (inside d) (changes (ls d) (ns d)) (changes (lb d) (nb d)) (back (j d) (start d)) (there d .0) (sym (g .ensures) ∙ not-false (g .result) (c .before .before .before .before .before .before .before .before .before .before .before .before .if2 .left)) (sym (h .ensures) ∙ not-false (h .result) (c .before .before .before .before .before .before .before .before .if3 .left))
-    ∙ ap (λ (k : ℕ). record { slots = restore (changes (ls d) (ns d)) (now (s₁ d .args .slots)); memory = restore (changes (lb d) (nb d)) (memory d); answer = Done k }) (length-back (j d) (start d) (omega (arith, there d .1, inside d))))
+    (undo-done (now (s₁ d .args .slots)) (memory d) (j d) (s₁ d .args .mark) (inside d) (changes (ls d) (ns d)) (changes (lb d) (nb d)) (back (j d) (start d)) (there d .0) (start d) (omega (arith, there d .1, inside d)) refl (sym (g .ensures) ∙ not-false (g .result) (c .before .before .before .before .before .before .before .before .before .before .before .before .if2 .left)) (sym (h .ensures) ∙ not-false (h .result) (c .before .before .before .before .before .before .before .before .if3 .left)))
 
 pub undo-spec : {M : Type 1} → statement M
 undo-spec =
