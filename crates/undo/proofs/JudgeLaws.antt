@@ -8,14 +8,14 @@ use mathlib.Core.List.{List, [], _∷_}
 use native.Mathlib.Nat.{le-of-suc-le-suc, not-suc-le-zero}
 use native.Mathlib.Omega.{arith}
 use lib.ListN.{length, getD, set}
-use lib.Dec.{ltb, eqb}
-use borrow.Author.Tests.{le-leb, lt-leb, eq-eqb, ne-eqb, ltb-true, eqb-false}
+use lib.Dec.{ltb, leb, eqb}
+use borrow.Author.Tests.{le-leb, lt-leb, eq-eqb, ne-eqb, ltb-true, leb-true, eqb-false}
 use Rattle.numbers.specs.Number.{both, back}
 use Rattle.record.specs.Limits.{valid-value, valid-byte}
 use Rattle.record.specs.Change.{Change, ByteOlds, restore, between, changes}
-use Rattle.undo.specs.Undo.{Record, found, none, read-record, all-valid, if-valid, shaped-record, differs, well-formed, Outcome, undo-of}
+use Rattle.undo.specs.Undo.{Record, found, none, read-record, all-valid, if-valid, shaped-record, differs, if-differs, well-formed, Outcome, undo-of}
 use Rattle.undo.specs.declared.Answer.the-variants.{Done, Refused}
-use Rattle.undo.proofs.ReadLaws.{between-at}
+use Rattle.undo.proofs.ReadLaws.{between-at, length-back}
 
 -- ---- both of two
 pub both-left : (a b : Bool) → both a b ≡ true → a ≡ true
@@ -133,3 +133,43 @@ module _ (slots memory j : List ℕ) (mark : ℕ) where
           → undo-of slots memory j mark ≡ record { slots = restore ss slots; memory = restore bs memory; answer = Done (length s) }
       unfolding undo-of well-formed
       undo-all h k = rw (le-leb mark (length j) inside, e, h, k)
+
+      -- the same with the place k where the record starts
+      pub undo-done : (k : ℕ) → k ≤ length j → s ≡ back j k → differs slots ss ≡ true → differs memory bs ≡ true
+          → undo-of slots memory j mark ≡ record { slots = restore ss slots; memory = restore bs memory; answer = Done k }
+      undo-done k low at h g = undo-all h g ∙ rw (at, length-back j k low)
+
+-- ---- what a well-formed record is: the mark in the journal, the record shaped, and each old value different from the one now held
+abbrev pub Fitting : List ℕ → List ℕ → List ℕ → ℕ → List Change → List Change → List ℕ → Type 0
+Fitting slots memory j mark ss bs s =
+    (mark ≤ length j)
+    × (shaped-record (length memory) (back j mark) ≡ found ss bs s)
+    × (differs slots ss ≡ true)
+    × (differs memory bs ≡ true)
+
+if-differs-inv : (slots memory : List ℕ) (w : Record) (ss bs : List Change) (s : List ℕ) → if-differs slots memory w ≡ found ss bs s
+    → (w ≡ found ss bs s) × (differs slots ss ≡ true) × (differs memory bs ≡ true)
+if-differs-inv slots memory none ss bs s e = none-found ss bs s e
+if-differs-inv slots memory (found cs ds t) ss bs s e = go (both (differs slots cs) (differs memory ds)) refl
+  where
+    go : (b : Bool) → both (differs slots cs) (differs memory ds) ≡ b → (found cs ds t ≡ found ss bs s) × (differs slots ss ≡ true) × (differs memory bs ≡ true)
+    go false q = none-found ss bs s (rw q at e)
+    go true q =
+        let same : found cs ds t ≡ found ss bs s = rw q at e in
+        let of-slots : cs ≡ ss = cc in
+        let of-bytes : ds ≡ bs = cc in
+        (same, rw (← of-slots) (both-left (differs slots cs) (differs memory ds) q), rw (← of-bytes) (both-right (differs slots cs) (differs memory ds) q))
+
+pub well-formed-inv : (slots memory j : List ℕ) (mark : ℕ) (ss bs : List Change) (s : List ℕ) → well-formed slots memory j mark ≡ found ss bs s → Fitting slots memory j mark ss bs s
+unfolding well-formed
+well-formed-inv slots memory j mark ss bs s e = go (leb mark (length j)) refl
+  where
+    go : (b : Bool) → leb mark (length j) ≡ b → Fitting slots memory j mark ss bs s
+    go false q = none-found ss bs s (rw q at e)
+    go true q =
+        let w = if-differs-inv slots memory (shaped-record (length memory) (back j mark)) ss bs s (rw q at e) in
+        (leb-true mark (length j) q, w .0, w .1, w .2)
+
+pub well-formed-when : (slots memory j : List ℕ) (mark : ℕ) (ss bs : List Change) (s : List ℕ) → Fitting slots memory j mark ss bs s → well-formed slots memory j mark ≡ found ss bs s
+unfolding well-formed
+well-formed-when slots memory j mark ss bs s f = rw (le-leb mark (length j) (f .0), f .1, f .2, f .3)

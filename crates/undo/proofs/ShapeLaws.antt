@@ -1,20 +1,21 @@
 -- ShapeLaws.antt - a journal's end that reads as a record is that record's bytes: there is one form of each.
 -- Speaks of: read-changes, read-record and shaped-record of specs/Undo.antt, record-of of record.
 -- Assumes nothing.  Source: [01 The journal].
-use Prim.Native.Nat.{ℕ, zero, suc, _+_}
+use Prim.Native.Nat.{ℕ, zero, suc, _+_, _/_, _%_, _≤_, _<_}
 use mathlib.Core.Path.{_≡_, refl, sym, ap, _∙_}
 use mathlib.Core.Bool.{Bool, true, false}
 use mathlib.Core.List.{List, [], _∷_, _++_, append-assoc, append-nil, reverse, reverse-append, reverse-reverse}
 use native.Mathlib.Omega.{arith}
-use lib.ListN.{length, take, length-append}
+use lib.ListN.{length, take, length-append, length-reverse}
 use lib.Dec.{ltb, leb}
-use Rattle.numbers.specs.Number.{pick, Got, got, bad, number-bytes, read-number, back}
+use Rattle.numbers.specs.Number.{groups, pick, Got, got, bad, number-bytes, read-number, back}
 use Rattle.numbers.proofs.NumberLaws.{Bytes, bytes-rest, bytes-of-read-number}
 use Rattle.record.specs.Limits.{slot-limit, byte-limit}
 use Rattle.record.specs.Change.{Change, change-bytes, changes-bytes, record-of}
 use Rattle.record.proofs.ChangeLaws.{bytes-append}
-use Rattle.undo.specs.Undo.{One, one, no-change, read-place, read-old, read-change, Parsed, parsed, broken, read-rest, read-changes, Record, found, none, with-slots, with-bytes, with-slot-count, with-byte-count, read-record, shaped-record}
-use Rattle.undo.proofs.JudgeLaws.{shaped-valid}
+use Rattle.undo.specs.Undo.{One, one, no-change, read-place, read-old, read-change, Parsed, parsed, broken, read-rest, read-changes, Record, found, none, with-slots, with-bytes, with-slot-count, with-byte-count, read-record, shaped-record, well-formed}
+use Rattle.undo.proofs.ReadLaws.{length-back}
+use Rattle.undo.proofs.JudgeLaws.{shaped-valid, well-formed-inv}
 
 -- ---- one change
 no-one : {A : Type 0} (c : Change) (t : List ℕ) → no-change ≡ one c t → A
@@ -158,3 +159,23 @@ journal-of-shaped-record len j mark ss bs r e h =
     ∙ ap reverse (bytes-of-shaped-record len (reverse (take mark j)) ss bs r e h)
     ∙ reverse-append (reverse (record-of ss bs)) r
     ∙ ap (λ (l : List ℕ). reverse r ++ l) (reverse-reverse (record-of ss bs))
+
+-- ---- an undo that is not refused lowers the mark
+some-bytes : (k v : ℕ) → 1 ≤ length (groups k v)
+some-bytes zero v = omega arith
+some-bytes (suc k) v = go (ltb v 128) refl (some-bytes k (v / 128))
+  where
+    go : (b : Bool) → ltb v 128 ≡ b → 1 ≤ length (groups k (v / 128)) → 1 ≤ length (groups (suc k) v)
+    go true e h = rw e (omega arith)
+    go false e h = rw e (omega (arith, length-append (groups k (v / 128)) ((v % 128 + 128) ∷ [])))
+
+pub record-not-empty : (ss bs : List Change) → 1 ≤ length (record-of ss bs)
+unfolding record-of number-bytes
+record-not-empty ss bs =
+    omega (arith, some-bytes 4 (length bs), length-append (changes-bytes ss ++ changes-bytes bs ++ groups 4 (length ss)) (groups 4 (length bs)))
+
+pub well-formed-below : (slots memory j : List ℕ) (mark : ℕ) (ss bs : List Change) (s : List ℕ) → well-formed slots memory j mark ≡ found ss bs s → Bytes (back j mark) → length s < mark
+well-formed-below slots memory j mark ss bs s e h =
+    let f = well-formed-inv slots memory j mark ss bs s e in
+    let same = bytes-of-shaped-record (length memory) (back j mark) ss bs s (f .1) h in
+    omega (arith, f .0, length-back j mark (f .0), ap length same, length-append (reverse (record-of ss bs)) s, length-reverse (record-of ss bs), record-not-empty ss bs)

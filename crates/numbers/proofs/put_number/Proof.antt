@@ -9,12 +9,9 @@ put-groups-requires : tie.Need-put-groups-requires
 unfolding number-bytes
 put-groups-requires c κs = (omega arith, c .before .before .pre)
 
-same-length : tie.Need-same-length
-same-length c = search needs
-
 returns : tie.Need-returns
 unfolding number-bytes
 returns c = search needs
 
 pub put-number-spec : {M : Type 1} → statement M
-put-number-spec = tie.close (tie.spec put-groups-requires same-length returns)
+put-number-spec = tie.close (tie.spec put-groups-requires (λ c. search needs) returns)

@@ -5,11 +5,8 @@ use borrow.Author.Needs.{needs}
 use Rattle.numbers.proofs.read_number.Statement.{statement}
 use Rattle.numbers.proofs.read_number.Tie as tie
 
-read-groups-requires : tie.Need-read-groups-requires
-read-groups-requires c κs = search needs
-
 returns : tie.Need-returns
 returns c = number-of (now (c .before .before .args .journal)) (c .before .before .args .end) (c .read-groups .result) (c .read-groups .ensures)
 
 pub read-number-spec : {M : Type 1} → statement M
-read-number-spec = tie.close (tie.spec read-groups-requires returns)
+read-number-spec = tie.close (tie.spec (λ c κs. search needs) returns)

@@ -55,9 +55,6 @@ put-number-requires-2 c κs =
     let h = c .before .before .before .put-number in
     count-room-2 j (s .args .mark) (slots s) (bytes s) (fits s) (f .last .0) (f .result) (f .ensures) (g .last .0) (g .result) (g .ensures) (h .last .0) (h .result) (h .ensures .0) (h .ensures .1)
 
-same-length : tie.Need-same-length
-same-length c = search needs
-
 returns : tie.Need-returns
 returns c =
     let s = c .before .before .before .before .before .before .before .before .before .before .before .before .before .before .before .before .before .before .before .before .before in
@@ -77,5 +74,5 @@ put-record-spec =
     put-bytes-requires
     put-number-requires
     put-number-requires-2
-    same-length
+    (λ c. search needs)
     returns)

@@ -21,21 +21,6 @@ loop-holds c =
     let a = c .before .before .before .args in
     (omega arith, omega arith, left-start (now (a .journal)) (a .at) (diffs 0 (now (a .old)) (now (a .new))))
 
-cast-put-changed : tie.Need-cast-put-changed Inv-loop μ-loop
-cast-put-changed c = search needs
-
-mul-put-changed : tie.Need-mul-put-changed Inv-loop μ-loop
-mul-put-changed c = search needs
-
-shared-slice-read-put-changed : tie.Need-shared-slice-read-put-changed Inv-loop μ-loop
-shared-slice-read-put-changed c = search needs
-
-mul-put-changed-2 : tie.Need-mul-put-changed-2 Inv-loop μ-loop
-mul-put-changed-2 c = search needs
-
-shared-slice-read-put-changed-2 : tie.Need-shared-slice-read-put-changed-2 Inv-loop μ-loop
-shared-slice-read-put-changed-2 c = search needs
-
 put-changed-requires : tie.Need-put-changed-requires Inv-loop μ-loop
 put-changed-requires c κs =
     let a = c .before .before .before .before .before .before .before .before .args in
@@ -47,12 +32,6 @@ put-changed-requires c κs =
     let rest = diffs (i + 1) (drop (i + 1) os) (drop (i + 1) ns) in
     let e = diffs-at os ns i (c .before .before .before .before .before .before .before .before .pre .0 .0) (c .before .before .before .loop-test .taken) in
     (omega arith, left-room (now (a .journal)) (a .at) (diffs 0 os ns) (c .before .before .before .before .before .before .before .before .pre .1) (q .journal) (q .put) one rest (diffs i (drop i os) (drop i ns)) e (q .inv .2))
-
-add-i : tie.Need-add-i Inv-loop μ-loop
-add-i c = search needs
-
-loop-less : tie.Need-loop-less Inv-loop μ-loop
-loop-less c = search needs
 
 loop-again : tie.Need-loop-again Inv-loop μ-loop
 loop-again c =
@@ -70,9 +49,6 @@ loop-again c =
       left-step (now (a .journal)) (a .at) (diffs 0 os ns) (c .before .before .before .before .before .before .before .before .before .before .before .pre .1) (q .journal) (q .put) one rest (diffs i (drop i os) (drop i ns)) e (q .inv .2) (g .last .0) (g .result) (g .ensures .0) (g .ensures .1 .0) (g .ensures .1 .1),
     )
 
-same-length : tie.Need-same-length Inv-loop μ-loop
-same-length c = search needs
-
 returns : tie.Need-returns Inv-loop μ-loop
 returns c =
     let a = c .before .before .before .before .before .args in
@@ -86,14 +62,14 @@ put-slots-spec =
     Inv-loop
     μ-loop
     loop-holds
-    cast-put-changed
-    mul-put-changed
-    shared-slice-read-put-changed
-    mul-put-changed-2
-    shared-slice-read-put-changed-2
+    (λ c. search needs)
+    (λ c. search needs)
+    (λ c. search needs)
+    (λ c. search needs)
+    (λ c. search needs)
     put-changed-requires
-    add-i
-    loop-less
+    (λ c. search needs)
+    (λ c. search needs)
     loop-again
-    same-length
+    (λ c. search needs)
     returns)

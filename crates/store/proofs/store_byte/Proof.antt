@@ -5,24 +5,6 @@ use borrow.Author.Needs.{needs}
 use Rattle.store.proofs.store_byte.Statement.{statement}
 use Rattle.store.proofs.store_byte.Tie as tie
 
-cast-if1 : tie.Need-cast-if1
-cast-if1 c = search needs
-
-cast-write-byte : tie.Need-cast-write-byte
-cast-write-byte c = search needs
-
-write-byte-requires : tie.Need-write-byte-requires
-write-byte-requires c κs = search needs
-
-same-length : tie.Need-same-length
-same-length c = search needs
-
-same-length-2 : tie.Need-same-length-2
-same-length-2 c = search needs
-
-returns : tie.Need-returns
-returns c = search needs
-
 returns-2 : tie.Need-returns-2
 returns-2 c =
     let s = c .before .before .before in
@@ -32,10 +14,10 @@ pub store-byte-spec : {M : Type 1} → statement M
 store-byte-spec =
     tie.close
     (tie.spec
-    cast-if1
-    cast-write-byte
-    write-byte-requires
-    same-length
-    same-length-2
-    returns
+    (λ c. search needs)
+    (λ c. search needs)
+    (λ c κs. search needs)
+    (λ c. search needs)
+    (λ c. search needs)
+    (λ c. search needs)
     returns-2)

@@ -5,21 +5,6 @@ use borrow.Author.Needs.{needs}
 use Rattle.store.proofs.store_long.Statement.{statement}
 use Rattle.store.proofs.store_long.Tie as tie
 
-store-word-requires : tie.Need-store-word-requires
-store-word-requires c κs = search needs
-
-wrapping-add-u32-requires : tie.Need-wrapping-add-u32-requires
-wrapping-add-u32-requires c κs = search needs
-
-store-word-requires-2 : tie.Need-store-word-requires-2
-store-word-requires-2 c κs = search needs
-
-same-length : tie.Need-same-length
-same-length c = search needs
-
-same-length-2 : tie.Need-same-length-2
-same-length-2 c = search needs
-
 returns : tie.Need-returns
 returns c =
     let s = c .before .before .before .before .before .before .before .before .before .before .before .before .before .before .before .before .before in
@@ -31,9 +16,9 @@ pub store-long-spec : {M : Type 1} → statement M
 store-long-spec =
     tie.close
     (tie.spec
-    store-word-requires
-    wrapping-add-u32-requires
-    store-word-requires-2
-    same-length
-    same-length-2
+    (λ c κs. search needs)
+    (λ c κs. search needs)
+    (λ c κs. search needs)
+    (λ c. search needs)
+    (λ c. search needs)
     returns)

@@ -11,12 +11,6 @@ store-byte-requires c κs =
     let s = c .before .before .before .before .before in
     (s .pre .0, rw (size-byte {A = ℕ} (s .args .z) 1 2 4 (c .before .before .if1 .taken)) at (s .pre .1))
 
-same-length : tie.Need-same-length
-same-length c = search needs
-
-same-length-2 : tie.Need-same-length-2
-same-length-2 c = search needs
-
 returns : tie.Need-returns
 returns c =
     let s = c .before .before .before .before .before .before .before .before .before .before in
@@ -27,12 +21,6 @@ store-word-requires : tie.Need-store-word-requires
 store-word-requires c κs =
     let s = c .before .before .before .before .before .before in
     (s .pre .0, rw (size-word {A = ℕ} (s .args .z) 1 2 4 (c .before .before .before .if1 .left) (c .before .before .if2 .taken)) at (s .pre .1))
-
-same-length-3 : tie.Need-same-length-3
-same-length-3 c = search needs
-
-same-length-4 : tie.Need-same-length-4
-same-length-4 c = search needs
 
 returns-2 : tie.Need-returns-2
 returns-2 c =
@@ -45,12 +33,6 @@ store-long-requires c κs =
     let s = c .before .before .before .before .before .before in
     (s .pre .0, rw (size-long {A = ℕ} (s .args .z) 1 2 4 (c .before .before .before .if1 .left) (c .before .before .if2 .left)) at (s .pre .1))
 
-same-length-5 : tie.Need-same-length-5
-same-length-5 c = search needs
-
-same-length-6 : tie.Need-same-length-6
-same-length-6 c = search needs
-
 returns-3 : tie.Need-returns-3
 returns-3 c =
     let s = c .before .before .before .before .before .before .before .before .before .before .before in
@@ -62,14 +44,14 @@ store-sized-spec =
     tie.close
     (tie.spec
     store-byte-requires
-    same-length
-    same-length-2
+    (λ c. search needs)
+    (λ c. search needs)
     returns
     store-word-requires
-    same-length-3
-    same-length-4
+    (λ c. search needs)
+    (λ c. search needs)
     returns-2
     store-long-requires
-    same-length-5
-    same-length-6
+    (λ c. search needs)
+    (λ c. search needs)
     returns-3)

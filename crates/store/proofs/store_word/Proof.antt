@@ -5,21 +5,6 @@ use borrow.Author.Needs.{needs}
 use Rattle.store.proofs.store_word.Statement.{statement}
 use Rattle.store.proofs.store_word.Tie as tie
 
-store-byte-requires : tie.Need-store-byte-requires
-store-byte-requires c κs = search needs
-
-wrapping-add-u32-requires : tie.Need-wrapping-add-u32-requires
-wrapping-add-u32-requires c κs = search needs
-
-store-byte-requires-2 : tie.Need-store-byte-requires-2
-store-byte-requires-2 c κs = search needs
-
-same-length : tie.Need-same-length
-same-length c = search needs
-
-same-length-2 : tie.Need-same-length-2
-same-length-2 c = search needs
-
 returns : tie.Need-returns
 returns c =
     let s = c .before .before .before .before .before .before .before .before .before .before .before .before .before .before .before .before .before in
@@ -31,9 +16,9 @@ pub store-word-spec : {M : Type 1} → statement M
 store-word-spec =
     tie.close
     (tie.spec
-    store-byte-requires
-    wrapping-add-u32-requires
-    store-byte-requires-2
-    same-length
-    same-length-2
+    (λ c κs. search needs)
+    (λ c κs. search needs)
+    (λ c κs. search needs)
+    (λ c. search needs)
+    (λ c. search needs)
     returns)

@@ -18,15 +18,6 @@ abbrev μ-loop : tie.MeasureT-loop
 loop-holds : tie.Need-loop-holds Inv-loop μ-loop
 loop-holds c = (omega arith, λ q. absurd (omega arith))
 
-sub-e : tie.Need-sub-e Inv-loop μ-loop
-sub-e c = search needs
-
-mul-e : tie.Need-mul-e Inv-loop μ-loop
-mul-e c = search needs
-
-shared-slice-read-e : tie.Need-shared-slice-read-e Inv-loop μ-loop
-shared-slice-read-e c = search needs
-
 returns : tie.Need-returns Inv-loop μ-loop
 returns c =
     let s = c .before .before .before .before in
@@ -36,12 +27,6 @@ returns c =
       below = all-below 0 (2 ^ 32) (now (s .args .log)) (s .args .n) (q .i) (s .args .a) (s .pre .1) (c .before .before .loop-test .taken) (q .inv .0) (s .pre .0) (c .if1 .taken);
       above = q .inv .1;
     }
-
-sub-i : tie.Need-sub-i Inv-loop μ-loop
-sub-i c = search needs
-
-loop-less : tie.Need-loop-less Inv-loop μ-loop
-loop-less c = search needs
 
 loop-again : tie.Need-loop-again Inv-loop μ-loop
 loop-again c = (omega arith, λ q. c .if1 .left)
@@ -59,11 +44,11 @@ find-place-spec =
     Inv-loop
     μ-loop
     loop-holds
-    sub-e
-    mul-e
-    shared-slice-read-e
+    (λ c. search needs)
+    (λ c. search needs)
+    (λ c. search needs)
     returns
-    sub-i
-    loop-less
+    (λ c. search needs)
+    (λ c. search needs)
     loop-again
     returns-2)

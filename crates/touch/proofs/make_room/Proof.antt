@@ -18,27 +18,6 @@ abbrev μ-loop : tie.MeasureT-loop
 loop-holds : tie.Need-loop-holds Inv-loop μ-loop
 loop-holds c = (omega arith, omega arith, moved-start (now (c .args .log)) (c .args .n), refl)
 
-sub-log : tie.Need-sub-log Inv-loop μ-loop
-sub-log c = search needs
-
-mul-log : tie.Need-mul-log Inv-loop μ-loop
-mul-log c = search needs
-
-slice-read-log : tie.Need-slice-read-log Inv-loop μ-loop
-slice-read-log c = search needs
-
-mul-log-2 : tie.Need-mul-log-2 Inv-loop μ-loop
-mul-log-2 c = search needs
-
-slice-write-log : tie.Need-slice-write-log Inv-loop μ-loop
-slice-write-log c = search needs
-
-sub-j : tie.Need-sub-j Inv-loop μ-loop
-sub-j c = search needs
-
-loop-less : tie.Need-loop-less Inv-loop μ-loop
-loop-less c = search needs
-
 loop-again : tie.Need-loop-again Inv-loop μ-loop
 loop-again c =
     let s = c .before .before .before in
@@ -49,15 +28,6 @@ loop-again c =
       rw (q .inv .2) (moved-step (now (s .args .log)) (s .args .n) (s .pre .1) (q .j) (omega arith) (q .inv .1)),
       length-set (q .log) (q .j) (getD (q .log) (q .j - 1) 0) ∙ q .inv .3,
     )
-
-mul-log-3 : tie.Need-mul-log-3 Inv-loop μ-loop
-mul-log-3 c = search needs
-
-slice-write-log-2 : tie.Need-slice-write-log-2 Inv-loop μ-loop
-slice-write-log-2 c = search needs
-
-same-length : tie.Need-same-length Inv-loop μ-loop
-same-length c = search needs
 
 returns : tie.Need-returns Inv-loop μ-loop
 returns c =
@@ -74,15 +44,15 @@ make-room-spec =
     Inv-loop
     μ-loop
     loop-holds
-    sub-log
-    mul-log
-    slice-read-log
-    mul-log-2
-    slice-write-log
-    sub-j
-    loop-less
+    (λ c. search needs)
+    (λ c. search needs)
+    (λ c. search needs)
+    (λ c. search needs)
+    (λ c. search needs)
+    (λ c. search needs)
+    (λ c. search needs)
     loop-again
-    mul-log-3
-    slice-write-log-2
-    same-length
+    (λ c. search needs)
+    (λ c. search needs)
+    (λ c. search needs)
     returns)

@@ -13,27 +13,6 @@ use borrow.Author.Needs.{needs}
 use Rattle.touch.proofs.touch.Statement.{statement}
 use Rattle.touch.proofs.touch.Tie as tie
 
-find-place-requires : tie.Need-find-place-requires
-find-place-requires c κs = search needs
-
-mul-p : tie.Need-mul-p
-mul-p c = search needs
-
-add-p : tie.Need-add-p
-add-p c = search needs
-
-mul-log : tie.Need-mul-log
-mul-log c = search needs
-
-slice-write-log : tie.Need-slice-write-log
-slice-write-log c = search needs
-
-add-result : tie.Need-add-result
-add-result c = search needs
-
-same-length : tie.Need-same-length
-same-length c = search needs
-
 returns : tie.Need-returns
 returns c =
     let s = c .before .before .before .before in
@@ -48,15 +27,6 @@ returns c =
     let new′ : _ ≡ changes l n ++ record { place = a; old = o } ∷ between n n l = new ∙ ap (λ (k : ℕ). changes l k ++ record { place = a; old = o } ∷ between k n l) at-n in
     (omega arith, changes-of-last l n (a * 2 ^ 32 + o) (s .pre .0) ∙ rw (unpacked a o (s .fits .old .fits)) (sym (new′ ∙ rw (slice-empty n l))))
 
-mul-if2 : tie.Need-mul-if2
-mul-if2 c = search needs
-
-slice-read-if2 : tie.Need-slice-read-if2
-slice-read-if2 c = search needs
-
-same-length-2 : tie.Need-same-length-2
-same-length-2 c = search needs
-
 returns-2 : tie.Need-returns-2
 returns-2 c =
     let s = c .before .before .before .before .before .before in
@@ -68,15 +38,6 @@ returns-2 c =
     let found = c .before .before .before .find-place .ensures in
     let below-n : i < n = omega (arith, found .within, c .before .before .if1 .left) in
     (omega arith, sym (touch-old a o l n i below-n (omega arith) (found .below) (c .if2 .taken)))
-
-make-room-requires : tie.Need-make-room-requires
-make-room-requires c κs = search needs
-
-add-result-2 : tie.Need-add-result-2
-add-result-2 c = search needs
-
-same-length-3 : tie.Need-same-length-3
-same-length-3 c = search needs
 
 returns-3 : tie.Need-returns-3
 returns-3 c =
@@ -96,19 +57,19 @@ pub touch-spec : {M : Type 1} → statement M
 touch-spec =
     tie.close
     (tie.spec
-    find-place-requires
-    mul-p
-    add-p
-    mul-log
-    slice-write-log
-    add-result
-    same-length
+    (λ c κs. search needs)
+    (λ c. search needs)
+    (λ c. search needs)
+    (λ c. search needs)
+    (λ c. search needs)
+    (λ c. search needs)
+    (λ c. search needs)
     returns
-    mul-if2
-    slice-read-if2
-    same-length-2
+    (λ c. search needs)
+    (λ c. search needs)
+    (λ c. search needs)
     returns-2
-    make-room-requires
-    add-result-2
-    same-length-3
+    (λ c κs. search needs)
+    (λ c. search needs)
+    (λ c. search needs)
     returns-3)

@@ -7,9 +7,6 @@ use Rattle.touch.proofs.TouchLaws.{log-order, noted-byte}
 use Rattle.touch.proofs.write_byte.Statement.{statement}
 use Rattle.touch.proofs.write_byte.Tie as tie
 
-slice-read-touch : tie.Need-slice-read-touch
-slice-read-touch c = search needs
-
 cast-touch : tie.Need-cast-touch
 cast-touch c = omega (arith, c .slice-known3 .given (c .before .before .before .before .args .a))
 
@@ -17,15 +14,6 @@ touch-requires : tie.Need-touch-requires
 touch-requires c κs =
     let s = c .before .before .before .before in
     (omega arith, log-order (now (s .args .memory)) (now (s .args .log)) (s .args .n) (s .pre .2))
-
-slice-write-memory : tie.Need-slice-write-memory
-slice-write-memory c = search needs
-
-same-length : tie.Need-same-length
-same-length c = search needs
-
-same-length-2 : tie.Need-same-length-2
-same-length-2 c = search needs
 
 returns : tie.Need-returns
 returns c =
@@ -38,10 +26,10 @@ pub write-byte-spec : {M : Type 1} → statement M
 write-byte-spec =
     tie.close
     (tie.spec
-    slice-read-touch
+    (λ c. search needs)
     cast-touch
     touch-requires
-    slice-write-memory
-    same-length
-    same-length-2
+    (λ c. search needs)
+    (λ c. search needs)
+    (λ c. search needs)
     returns)

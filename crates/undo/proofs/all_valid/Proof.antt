@@ -21,20 +21,8 @@ abbrev μ-loop : tie.MeasureT-loop
 loop-holds : tie.Need-loop-holds Inv-loop μ-loop
 loop-holds c = (omega arith, refl)
 
-mul-e : tie.Need-mul-e Inv-loop μ-loop
-mul-e c = search needs
-
-shared-slice-read-e : tie.Need-shared-slice-read-e Inv-loop μ-loop
-shared-slice-read-e c = search needs
-
 cast-valid-for : tie.Need-cast-valid-for Inv-loop μ-loop
 cast-valid-for c = omega (arith, c .shared-slice-known2 .given (c .before .before .loop .i))
-
-cast-valid-for-2 : tie.Need-cast-valid-for-2 Inv-loop μ-loop
-cast-valid-for-2 c = search needs
-
-valid-for-requires : tie.Need-valid-for-requires Inv-loop μ-loop
-valid-for-requires c κs = search needs
 
 returns : tie.Need-returns Inv-loop μ-loop
 returns c =
@@ -42,12 +30,6 @@ returns c =
     let q = c .before .before .before .before .loop in
     let g = c .before .valid-for in
     sym (sym (q .inv .1) ∙ valid-not (now (s .args .log)) (q .i) (s .args .n) (c .before .before .before .loop-test .taken) (s .pre) (valid-for (s .args .bytes)) (sym (g .ensures) ∙ not-true (g .result) (c .if1 .taken)))
-
-add-i : tie.Need-add-i Inv-loop μ-loop
-add-i c = search needs
-
-loop-less : tie.Need-loop-less Inv-loop μ-loop
-loop-less c = search needs
 
 loop-again : tie.Need-loop-again Inv-loop μ-loop
 loop-again c =
@@ -69,13 +51,13 @@ all-valid-spec =
     Inv-loop
     μ-loop
     loop-holds
-    mul-e
-    shared-slice-read-e
+    (λ c. search needs)
+    (λ c. search needs)
     cast-valid-for
-    cast-valid-for-2
-    valid-for-requires
+    (λ c. search needs)
+    (λ c κs. search needs)
     returns
-    add-i
-    loop-less
+    (λ c. search needs)
+    (λ c. search needs)
     loop-again
     returns-2)

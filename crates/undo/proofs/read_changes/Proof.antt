@@ -29,18 +29,6 @@ loop-holds c =
     let a = c .before .before .args in
     (omega arith, omega arith, refl, ap (read-changes (a .n) (a .limit) (back (now (a .journal)) (a .end))) (sym (between-none (now (a .out)) (a .n))), omega arith, rw (between-none (now (a .out)) (a .n)) tt)
 
-read-number-requires : tie.Need-read-number-requires Inv-loop μ-loop
-read-number-requires c κs = search needs
-
-enum-known-old : tie.Need-enum-known-old Inv-loop μ-loop
-enum-known-old c = search needs
-
-enum-told : tie.Need-enum-told Inv-loop μ-loop
-enum-told c = search needs
-
-same-length : tie.Need-same-length Inv-loop μ-loop
-same-length c = search needs
-
 returns : tie.Need-returns Inv-loop μ-loop
 returns c =
     let s = c .before .before .before .before .before .before .before in
@@ -65,15 +53,6 @@ read-number-requires-2 c κs =
     let g = number-got j (q .e) (t .result) (t .ensures) (o .0 .0) (o .0 .1 .0) (o .1) in
     omega (arith, g .1)
 
-enum-known-place : tie.Need-enum-known-place Inv-loop μ-loop
-enum-known-place c = search needs
-
-enum-told-2 : tie.Need-enum-told-2 Inv-loop μ-loop
-enum-told-2 c = search needs
-
-same-length-2 : tie.Need-same-length-2 Inv-loop μ-loop
-same-length-2 c = search needs
-
 returns-2 : tie.Need-returns-2 Inv-loop μ-loop
 returns-2 c =
     let s = c .before .before .before .before .before .before .before .before .before .before .before in
@@ -87,12 +66,6 @@ returns-2 c =
     let g = number-got j (q .e) (t .result) (t .ensures) (o .0 .0) (o .0 .1 .0) (o .1) in
     let u = c .before .before .read-number2 in
     q .inv .3 ∙ second-bad (q .k) (q .lim) (back j (q .e)) acc more (o .0 .0) (back j (o .0 .1 .0)) (g .0) (number-bad j (o .0 .1 .0) (u .result) (u .ensures) (c .enum-told2 .given .1))
-
-cast-if1 : tie.Need-cast-if1 Inv-loop μ-loop
-cast-if1 c = search needs
-
-same-length-3 : tie.Need-same-length-3 Inv-loop μ-loop
-same-length-3 c = search needs
 
 returns-3 : tie.Need-returns-3 Inv-loop μ-loop
 returns-3 c =
@@ -109,33 +82,6 @@ returns-3 c =
     let p = c .before .before .place .given in
     let h = number-got j (o .0 .1 .0) (u .result) (u .ensures) (p .0 .0) (p .0 .1 .0) (p .1) in
     q .inv .3 ∙ order-bad (q .k) (q .lim) (back j (q .e)) acc more (o .0 .0) (back j (o .0 .1 .0)) (g .0) (p .0 .0) (back j (p .0 .1 .0)) (h .0) (c .if1 .taken)
-
-sub-k : tie.Need-sub-k Inv-loop μ-loop
-sub-k c = search needs
-
-cast-out : tie.Need-cast-out Inv-loop μ-loop
-cast-out c = search needs
-
-mul-out : tie.Need-mul-out Inv-loop μ-loop
-mul-out c = search needs
-
-cast-out-2 : tie.Need-cast-out-2 Inv-loop μ-loop
-cast-out-2 c = search needs
-
-add-out : tie.Need-add-out Inv-loop μ-loop
-add-out c = search needs
-
-mul-out-2 : tie.Need-mul-out-2 Inv-loop μ-loop
-mul-out-2 c = search needs
-
-slice-write-out : tie.Need-slice-write-out Inv-loop μ-loop
-slice-write-out c = search needs
-
-cast-lim : tie.Need-cast-lim Inv-loop μ-loop
-cast-lim c = search needs
-
-loop-less : tie.Need-loop-less Inv-loop μ-loop
-loop-less c = search needs
 
 loop-again : tie.Need-loop-again Inv-loop μ-loop
 loop-again c =
@@ -161,9 +107,6 @@ loop-again c =
       rw new (omega arith, omega (arith, c .if1 .left), ascending-raise (q .lim) (suc (p .0 .0)) (s .args .limit) acc (c .if1 .left) (q .inv .5)),
     )
 
-same-length-4 : tie.Need-same-length-4 Inv-loop μ-loop
-same-length-4 c = search needs
-
 returns-4 : tie.Need-returns-4 Inv-loop μ-loop
 returns-4 c =
     let s = c .before .before .before .before in
@@ -179,28 +122,28 @@ read-changes-spec =
     Inv-loop
     μ-loop
     loop-holds
-    read-number-requires
-    enum-known-old
-    enum-told
-    same-length
+    (λ c κs. search needs)
+    (λ c. search needs)
+    (λ c. search needs)
+    (λ c. search needs)
     returns
     read-number-requires-2
-    enum-known-place
-    enum-told-2
-    same-length-2
+    (λ c. search needs)
+    (λ c. search needs)
+    (λ c. search needs)
     returns-2
-    cast-if1
-    same-length-3
+    (λ c. search needs)
+    (λ c. search needs)
     returns-3
-    sub-k
-    cast-out
-    mul-out
-    cast-out-2
-    add-out
-    mul-out-2
-    slice-write-out
-    cast-lim
-    loop-less
+    (λ c. search needs)
+    (λ c. search needs)
+    (λ c. search needs)
+    (λ c. search needs)
+    (λ c. search needs)
+    (λ c. search needs)
+    (λ c. search needs)
+    (λ c. search needs)
+    (λ c. search needs)
     loop-again
-    same-length-4
+    (λ c. search needs)
     returns-4)

@@ -65,23 +65,11 @@ module _ (c : tie.After-e3) where
       let a = c .before .before .before .before .read-changes in
       run-from (J (s₁ (b₂ b₃))) (p₂ b₃) (nb (b₂ b₃)) (s₁ (b₂ b₃) .args .len) out₃ (a .result) (a .ensures) p₃ (c .e3 .given .1)
 
-read-number-requires : tie.Need-read-number-requires
-read-number-requires c κs = search needs
-
-enum-known-nb : tie.Need-enum-known-nb
-enum-known-nb c = search needs
-
-enum-told : tie.Need-enum-told
-enum-told c = search needs
-
 returns : tie.Need-returns
 returns c =
     let s = c .before .before .before .before .before .before in
     let t = c .before .before .read-number in
     record-bad (s .args .len) (Z s) (number-bad (J s) (s .args .mark) (t .result) (t .ensures) (c .enum-told .given .1))
-
-cast-if1 : tie.Need-cast-if1
-cast-if1 c = search needs
 
 returns-2 : tie.Need-returns-2
 returns-2 c =
@@ -92,21 +80,12 @@ returns-2 c =
 read-number-requires-2 : tie.Need-read-number-requires-2
 read-number-requires-2 c κs = omega (arith, g₁ (c .before .before) .1)
 
-enum-known-ns : tie.Need-enum-known-ns
-enum-known-ns c = search needs
-
-enum-told-2 : tie.Need-enum-told-2
-enum-told-2 c = search needs
-
 returns-3 : tie.Need-returns-3
 returns-3 c =
     let b = c .before .before .before .before .before in
     let j = J (s₁ b) in
     let t = c .before .before .read-number2 in
     record-bad-2 (s₁ b .args .len) (Z (s₁ b)) (nb b) (back j (p₁ b)) (g₁ b .0) (c .before .before .before .if1 .left) (number-bad j (p₁ b) (t .result) (t .ensures) (c .enum-told2 .given .1))
-
-cast-if2 : tie.Need-cast-if2
-cast-if2 c = search needs
 
 returns-4 : tie.Need-returns-4
 returns-4 c =
@@ -116,9 +95,6 @@ returns-4 c =
     let few = d .before .before .before .if1 .left in
     record-many-2 (s₁ b .args .len) (Z (s₁ b)) (nb b) (back j (p₁ b)) (g₁ b .0) few (ns d) (back j (p₂ d)) (g₂ d .0) (c .if2 .taken)
 
-cast-read-changes : tie.Need-cast-read-changes
-cast-read-changes c = search needs
-
 read-changes-requires : tie.Need-read-changes-requires
 read-changes-requires c κs =
     let d = c .before .before .before in
@@ -126,15 +102,6 @@ read-changes-requires c κs =
     let j = J (s₁ b) in
     let few = d .before .before .before .if1 .left in
     (omega (arith, g₁ b .1, g₂ d .1), omega arith)
-
-enum-known-e3 : tie.Need-enum-known-e3
-enum-known-e3 c = search needs
-
-enum-told-3 : tie.Need-enum-told-3
-enum-told-3 c = search needs
-
-same-length : tie.Need-same-length
-same-length c = search needs
 
 returns-5 : tie.Need-returns-5
 returns-5 c =
@@ -144,9 +111,6 @@ returns-5 c =
     let few = d .before .before .before .if1 .left in
     let a = c .before .before .before .before .read-changes in
     record-broken (s₁ b .args .len) (Z (s₁ b)) (nb b) (back j (p₁ b)) (g₁ b .0) few (ns d) (back j (p₂ d)) (g₂ d .0) (c .before .before .before .before .before .before .if2 .left) (run-broken j (p₂ d) (nb b) (s₁ b .args .len) (a .last .1 .1 .1 .1 .0) (a .result) (a .ensures) (c .enum-told3 .given .1))
-
-cast-read-changes-2 : tie.Need-cast-read-changes-2
-cast-read-changes-2 c = search needs
 
 read-changes-requires-2 : tie.Need-read-changes-requires-2
 read-changes-requires-2 c κs =
@@ -158,18 +122,6 @@ read-changes-requires-2 c κs =
     let few₂ = e .before .before .before .before .before .before .if2 .left in
     (omega (arith, g₁ b .1, g₂ d .1, g₃ e .1), omega arith)
 
-enum-known-e4 : tie.Need-enum-known-e4
-enum-known-e4 c = search needs
-
-enum-told-4 : tie.Need-enum-told-4
-enum-told-4 c = search needs
-
-same-length-2 : tie.Need-same-length-2
-same-length-2 c = search needs
-
-same-length-3 : tie.Need-same-length-3
-same-length-3 c = search needs
-
 returns-6 : tie.Need-returns-6
 returns-6 c =
     let e = c .before .before .before .before .before .before .before in
@@ -180,18 +132,6 @@ returns-6 c =
     let few₂ = e .before .before .before .before .before .before .if2 .left in
     let a = c .before .before .before .before .read-changes2 in
     record-broken-2 (s₁ b .args .len) (Z (s₁ b)) (nb b) (back j (p₁ b)) (g₁ b .0) few (ns d) (back j (p₂ d)) (g₂ d .0) few₂ (changes (out₃ e) (nb b)) (back j (p₃ e)) (g₃ e .0) (run-broken j (p₃ e) (ns d) slot-limit (a .last .1 .1 .1 .1 .0) (a .result) (a .ensures) (c .enum-told4 .given .1))
-
-cast-t13 : tie.Need-cast-t13
-cast-t13 c = search needs
-
-cast-t22 : tie.Need-cast-t22
-cast-t22 c = search needs
-
-same-length-4 : tie.Need-same-length-4
-same-length-4 c = search needs
-
-same-length-5 : tie.Need-same-length-5
-same-length-5 c = search needs
 
 returns-7 : tie.Need-returns-7
 returns-7 c =
@@ -217,33 +157,33 @@ pub read-record-spec : {M : Type 1} → statement M
 read-record-spec =
     tie.close
     (tie.spec
-    read-number-requires
-    enum-known-nb
-    enum-told
+    (λ c κs. search needs)
+    (λ c. search needs)
+    (λ c. search needs)
     returns
-    cast-if1
+    (λ c. search needs)
     returns-2
     read-number-requires-2
-    enum-known-ns
-    enum-told-2
+    (λ c. search needs)
+    (λ c. search needs)
     returns-3
-    cast-if2
+    (λ c. search needs)
     returns-4
-    cast-read-changes
+    (λ c. search needs)
     read-changes-requires
-    enum-known-e3
-    enum-told-3
-    same-length
+    (λ c. search needs)
+    (λ c. search needs)
+    (λ c. search needs)
     returns-5
-    cast-read-changes-2
+    (λ c. search needs)
     read-changes-requires-2
-    enum-known-e4
-    enum-told-4
-    same-length-2
-    same-length-3
+    (λ c. search needs)
+    (λ c. search needs)
+    (λ c. search needs)
+    (λ c. search needs)
     returns-6
-    cast-t13
-    cast-t22
-    same-length-4
-    same-length-5
+    (λ c. search needs)
+    (λ c. search needs)
+    (λ c. search needs)
+    (λ c. search needs)
     returns-7)

@@ -23,15 +23,6 @@ abbrev μ-loop : tie.MeasureT-loop
 loop-holds : tie.Need-loop-holds Inv-loop μ-loop
 loop-holds c = (omega arith, refl, refl)
 
-mul-e : tie.Need-mul-e Inv-loop μ-loop
-mul-e c = search needs
-
-shared-slice-read-e : tie.Need-shared-slice-read-e Inv-loop μ-loop
-shared-slice-read-e c = search needs
-
-cast-memory : tie.Need-cast-memory Inv-loop μ-loop
-cast-memory c = search needs
-
 slice-write-memory : tie.Need-slice-write-memory Inv-loop μ-loop
 slice-write-memory c =
     let s = c .before .before .before in
@@ -41,12 +32,6 @@ slice-write-memory c =
     let test = c .before .loop-test .taken in
     let inside = ascending-at 0 (length (now (s .args .memory))) log (s .args .n) (q .i) (s .pre .1) test (omega arith) in
     omega arith
-
-add-i : tie.Need-add-i Inv-loop μ-loop
-add-i c = search needs
-
-loop-less : tie.Need-loop-less Inv-loop μ-loop
-loop-less c = search needs
 
 loop-again : tie.Need-loop-again Inv-loop μ-loop
 loop-again c =
@@ -58,9 +43,6 @@ loop-again c =
     let inside = ascending-at 0 (length (now (s .args .memory))) log (s .args .n) (q .i) (s .pre .1) test (omega arith) in
     let small : x % 2 ^ 32 % 256 ≡ x % 2 ^ 32 = mod-eq-of-lt (olds-at log (s .args .n) (q .i) (s .pre .2) test (omega arith)) in
     (omega arith, rw small (sym (restore-next log (q .i) (s .args .n) test (s .pre .0) (q .memory)) ∙ q .inv .1), length-set (q .memory) (x / 2 ^ 32) (x % 2 ^ 32 % 256) ∙ q .inv .2)
-
-same-length : tie.Need-same-length Inv-loop μ-loop
-same-length c = search needs
 
 returns : tie.Need-returns Inv-loop μ-loop
 returns c =
@@ -75,12 +57,12 @@ restore-bytes-spec =
     Inv-loop
     μ-loop
     loop-holds
-    mul-e
-    shared-slice-read-e
-    cast-memory
+    (λ c. search needs)
+    (λ c. search needs)
+    (λ c. search needs)
     slice-write-memory
-    add-i
-    loop-less
+    (λ c. search needs)
+    (λ c. search needs)
     loop-again
-    same-length
+    (λ c. search needs)
     returns)

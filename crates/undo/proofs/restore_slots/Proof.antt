@@ -22,15 +22,6 @@ abbrev μ-loop : tie.MeasureT-loop
 loop-holds : tie.Need-loop-holds Inv-loop μ-loop
 loop-holds c = (omega arith, refl, refl)
 
-mul-e : tie.Need-mul-e Inv-loop μ-loop
-mul-e c = search needs
-
-shared-slice-read-e : tie.Need-shared-slice-read-e Inv-loop μ-loop
-shared-slice-read-e c = search needs
-
-cast-slots : tie.Need-cast-slots Inv-loop μ-loop
-cast-slots c = search needs
-
 mul-slots : tie.Need-mul-slots Inv-loop μ-loop
 mul-slots c =
     let s = c .before .before .before in
@@ -51,12 +42,6 @@ slice-write-slots c =
     let inside = ascending-at 0 (length (now (s .args .slots))) log (s .args .n) (q .i) (s .pre .1) test (omega arith) in
     omega arith
 
-add-i : tie.Need-add-i Inv-loop μ-loop
-add-i c = search needs
-
-loop-less : tie.Need-loop-less Inv-loop μ-loop
-loop-less c = search needs
-
 loop-again : tie.Need-loop-again Inv-loop μ-loop
 loop-again c =
     let s = c .before .before .before in
@@ -66,9 +51,6 @@ loop-again c =
     let test = c .before .loop-test .taken in
     let inside = ascending-at 0 (length (now (s .args .slots))) log (s .args .n) (q .i) (s .pre .1) test (omega arith) in
     (omega arith, sym (restore-next log (q .i) (s .args .n) test (s .pre .0) (q .slots)) ∙ q .inv .1, length-set (q .slots) (x / 2 ^ 32) (x % 2 ^ 32) ∙ q .inv .2)
-
-same-length : tie.Need-same-length Inv-loop μ-loop
-same-length c = search needs
 
 returns : tie.Need-returns Inv-loop μ-loop
 returns c =
@@ -83,13 +65,13 @@ restore-slots-spec =
     Inv-loop
     μ-loop
     loop-holds
-    mul-e
-    shared-slice-read-e
-    cast-slots
+    (λ c. search needs)
+    (λ c. search needs)
+    (λ c. search needs)
     mul-slots
     slice-write-slots
-    add-i
-    loop-less
+    (λ c. search needs)
+    (λ c. search needs)
     loop-again
-    same-length
+    (λ c. search needs)
     returns)

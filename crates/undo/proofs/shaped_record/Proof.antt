@@ -43,21 +43,6 @@ module _ (c : tie.After-ns) where
       let g = c .before .before .before .before .before .before .read-record in
       record-there (read-record (s₁ .args .len) (back j (s₁ .args .mark))) (s₁ .args .len) j (s₁ .args .mark) slots bytes (g .result) (g .ensures) ns nb start (c .ns .given .1)
 
-read-record-requires : tie.Need-read-record-requires
-read-record-requires c κs = search needs
-
-enum-known-ns : tie.Need-enum-known-ns
-enum-known-ns c = search needs
-
-enum-told : tie.Need-enum-told
-enum-told c = search needs
-
-same-length : tie.Need-same-length
-same-length c = search needs
-
-same-length-2 : tie.Need-same-length-2
-same-length-2 c = search needs
-
 returns : tie.Need-returns
 returns c =
     let s = c .before .before .before .before .before .before .before .before .before .before .before .before in
@@ -70,12 +55,6 @@ all-valid-requires c κs =
     let d = c .before .before in
     omega (arith, there d .2, c .before .before .before .before .before .before .before .before .read-record .kept .1 .1 .1 .0)
 
-same-length-3 : tie.Need-same-length-3
-same-length-3 c = search needs
-
-same-length-4 : tie.Need-same-length-4
-same-length-4 c = search needs
-
 returns-2 : tie.Need-returns-2
 returns-2 c =
     let d = c .before .before .before .before in
@@ -87,24 +66,12 @@ all-valid-requires-2 c κs =
     let d = c .before .before .before .before .before in
     omega (arith, there d .3, c .before .before .before .before .before .before .before .before .before .before .before .read-record .kept .1 .1 .1 .1 .0)
 
-same-length-5 : tie.Need-same-length-5
-same-length-5 c = search needs
-
-same-length-6 : tie.Need-same-length-6
-same-length-6 c = search needs
-
 returns-3 : tie.Need-returns-3
 returns-3 c =
     let d = c .before .before .before .before .before .before .before in
     let g = c .before .before .before .before .all-valid in
     let h = c .before .all-valid2 in
     shaped-bytes (s₁ d .args .len) (back (j d) (s₁ d .args .mark)) (changes (slots d) (ns d)) (changes (bytes d) (nb d)) (back (j d) (start d)) (there d .0) (sym (g .ensures) ∙ not-false (g .result) (c .before .before .before .if1 .left)) (sym (h .ensures) ∙ not-true (h .result) (c .if2 .taken))
-
-same-length-7 : tie.Need-same-length-7
-same-length-7 c = search needs
-
-same-length-8 : tie.Need-same-length-8
-same-length-8 c = search needs
 
 returns-4 : tie.Need-returns-4
 returns-4 c =
@@ -118,20 +85,20 @@ pub shaped-record-spec : {M : Type 1} → statement M
 shaped-record-spec =
     tie.close
     (tie.spec
-    read-record-requires
-    enum-known-ns
-    enum-told
-    same-length
-    same-length-2
+    (λ c κs. search needs)
+    (λ c. search needs)
+    (λ c. search needs)
+    (λ c. search needs)
+    (λ c. search needs)
     returns
     all-valid-requires
-    same-length-3
-    same-length-4
+    (λ c. search needs)
+    (λ c. search needs)
     returns-2
     all-valid-requires-2
-    same-length-5
-    same-length-6
+    (λ c. search needs)
+    (λ c. search needs)
     returns-3
-    same-length-7
-    same-length-8
+    (λ c. search needs)
+    (λ c. search needs)
     returns-4)

@@ -1,19 +1,18 @@
 -- undo: the record that was read, the two tests, and the values put back; a law for each return.
 use Prim.Native.Nat.{ℕ, _≤_}
 use native.Mathlib.Omega.{arith}
-use mathlib.Core.Path.{_≡_, sym, ap, _∙_, subst}
+use mathlib.Core.Path.{_≡_, refl, sym, _∙_, subst}
 use mathlib.Core.List.{List}
 use denote.Ref.{now}
 use lib.ListN.{length}
 use borrow.Author.Tests.{not-true, not-false}
 use Rattle.numbers.specs.Number.{back}
 use Rattle.record.specs.Limits.{slot-limit}
-use Rattle.record.specs.Change.{Ascending, changes, restore}
+use Rattle.record.specs.Change.{Ascending, changes}
 use Rattle.undo.specs.Undo.{RecordIs, shaped-record}
 use Rattle.undo.specs.declared.Last.the-variants.{Found}
-use Rattle.undo.specs.declared.Answer.the-variants.{Done}
-use Rattle.undo.proofs.ReadLaws.{record-nothing, record-there, length-back}
-use Rattle.undo.proofs.JudgeLaws.{shaped-valid, olds-of-valid, undo-mark, undo-none, undo-slots, undo-bytes, undo-all}
+use Rattle.undo.proofs.ReadLaws.{record-nothing, record-there}
+use Rattle.undo.proofs.JudgeLaws.{shaped-valid, olds-of-valid, undo-mark, undo-none, undo-slots, undo-bytes, undo-done}
 use borrow.Author.Needs.{needs}
 use Rattle.undo.proofs.undo.Statement.{statement}
 use Rattle.undo.proofs.undo.Tie as tie
@@ -63,21 +62,6 @@ returns c =
     let s = c .before .before .before in
     undo-mark (now (s .args .slots)) (now (s .args .memory)) (now (s .args .journal)) (s .args .mark) (c .if1 .taken)
 
-slice-aggregate-shaped-record : tie.Need-slice-aggregate-shaped-record
-slice-aggregate-shaped-record c = search needs
-
-slice-aggregate-shaped-record-2 : tie.Need-slice-aggregate-shaped-record-2
-slice-aggregate-shaped-record-2 c = search needs
-
-shaped-record-requires : tie.Need-shaped-record-requires
-shaped-record-requires c κs = search needs
-
-enum-known-ns : tie.Need-enum-known-ns
-enum-known-ns c = search needs
-
-enum-told : tie.Need-enum-told
-enum-told c = search needs
-
 returns-2 : tie.Need-returns-2
 returns-2 c =
     let s = c .before .before .before .before .before .before .before .before .before .before in
@@ -85,9 +69,6 @@ returns-2 c =
     let m = now (s .args .memory) in
     let j = now (s .args .journal) in
     undo-none (now (s .args .slots)) m j (s .args .mark) (c .before .before .before .before .before .before .before .if1 .left) (record-nothing (shaped-record (length m) (back j (s .args .mark))) (length m) j (s .args .mark) (g .last .1 .1 .1 .0) (g .last .1 .1 .1 .1 .0) (g .result) (g .ensures) (c .enum-told .given .1))
-
-slice-aggregate-slots-differ : tie.Need-slice-aggregate-slots-differ
-slice-aggregate-slots-differ c = search needs
 
 slots-differ-requires : tie.Need-slots-differ-requires
 slots-differ-requires c κs =
@@ -101,16 +82,10 @@ returns-3 c =
     let g = c .before .slots-differ in
     undo-slots (now (s₁ d .args .slots)) (memory d) (j d) (s₁ d .args .mark) (inside d) (changes (ls d) (ns d)) (changes (lb d) (nb d)) (back (j d) (start d)) (there d .0) (sym (g .ensures) ∙ not-true (g .result) (c .if2 .taken))
 
-slice-aggregate-bytes-differ : tie.Need-slice-aggregate-bytes-differ
-slice-aggregate-bytes-differ c = search needs
-
 bytes-differ-requires : tie.Need-bytes-differ-requires
 bytes-differ-requires c κs =
     let d = c .before .before .before .before .before .before .before .before in
     (few-bytes d, there d .5)
-
-same-length : tie.Need-same-length
-same-length c = search needs
 
 returns-4 : tie.Need-returns-4
 returns-4 c =
@@ -119,17 +94,11 @@ returns-4 c =
     let h = c .before .bytes-differ in
     undo-bytes (now (s₁ d .args .slots)) (memory d) (j d) (s₁ d .args .mark) (inside d) (changes (ls d) (ns d)) (changes (lb d) (nb d)) (back (j d) (start d)) (there d .0) (sym (g .ensures) ∙ not-false (g .result) (c .before .before .before .before .if2 .left)) (sym (h .ensures) ∙ not-true (h .result) (c .if3 .taken))
 
-slice-aggregate-restore-slots : tie.Need-slice-aggregate-restore-slots
-slice-aggregate-restore-slots c = search needs
-
 restore-slots-requires : tie.Need-restore-slots-requires
 restore-slots-requires c κs =
     let d = c .before .before .before .before .before .before .before .before .before .before .before .before in
     let twenty : length (now (s₁ d .args .slots)) ≡ slot-limit = search needs in
     (few d, subst (λ (n : ℕ). Ascending 0 n (changes (ls d) (ns d))) (sym twenty) (there d .4))
-
-slice-aggregate-restore-bytes : tie.Need-slice-aggregate-restore-bytes
-slice-aggregate-restore-bytes c = search needs
 
 restore-bytes-requires : tie.Need-restore-bytes-requires
 restore-bytes-requires c κs =
@@ -137,39 +106,35 @@ restore-bytes-requires c κs =
     let valid = shaped-valid (length (memory d)) (back (j d) (s₁ d .args .mark)) (changes (ls d) (ns d)) (changes (lb d) (nb d)) (back (j d) (start d)) (there d .0) in
     (few-bytes d, there d .5, olds-of-valid (changes (lb d) (nb d)) (valid .2))
 
-same-length-2 : tie.Need-same-length-2
-same-length-2 c = search needs
-
 returns-5 : tie.Need-returns-5
 returns-5 c =
     let d = c .before .before .before .before .before .before .before .before .before .before .before .before .before .before .before .before .before .before in
     let g = c .before .before .before .before .before .before .before .before .before .before .before .before .before .slots-differ in
     let h = c .before .before .before .before .before .before .before .before .before .bytes-differ in
     rw (c .before .before .before .before .before .restore-slots .ensures, c .before .before .restore-bytes .ensures)
-    (undo-all (now (s₁ d .args .slots)) (memory d) (j d) (s₁ d .args .mark) (inside d) (changes (ls d) (ns d)) (changes (lb d) (nb d)) (back (j d) (start d)) (there d .0) (sym (g .ensures) ∙ not-false (g .result) (c .before .before .before .before .before .before .before .before .before .before .before .before .if2 .left)) (sym (h .ensures) ∙ not-false (h .result) (c .before .before .before .before .before .before .before .before .if3 .left))
-    ∙ ap (λ (k : ℕ). record { slots = restore (changes (ls d) (ns d)) (now (s₁ d .args .slots)); memory = restore (changes (lb d) (nb d)) (memory d); answer = Done k }) (length-back (j d) (start d) (omega (arith, there d .1, inside d))))
+    (undo-done (now (s₁ d .args .slots)) (memory d) (j d) (s₁ d .args .mark) (inside d) (changes (ls d) (ns d)) (changes (lb d) (nb d)) (back (j d) (start d)) (there d .0) (start d) (omega (arith, there d .1, inside d)) refl (sym (g .ensures) ∙ not-false (g .result) (c .before .before .before .before .before .before .before .before .before .before .before .before .if2 .left)) (sym (h .ensures) ∙ not-false (h .result) (c .before .before .before .before .before .before .before .before .if3 .left)))
 
 pub undo-spec : {M : Type 1} → statement M
 undo-spec =
     tie.close
     (tie.spec
     returns
-    slice-aggregate-shaped-record
-    slice-aggregate-shaped-record-2
-    shaped-record-requires
-    enum-known-ns
-    enum-told
+    (λ c. search needs)
+    (λ c. search needs)
+    (λ c κs. search needs)
+    (λ c. search needs)
+    (λ c. search needs)
     returns-2
-    slice-aggregate-slots-differ
+    (λ c. search needs)
     slots-differ-requires
     returns-3
-    slice-aggregate-bytes-differ
+    (λ c. search needs)
     bytes-differ-requires
-    same-length
+    (λ c. search needs)
     returns-4
-    slice-aggregate-restore-slots
+    (λ c. search needs)
     restore-slots-requires
-    slice-aggregate-restore-bytes
+    (λ c. search needs)
     restore-bytes-requires
-    same-length-2
+    (λ c. search needs)
     returns-5)

@@ -6,11 +6,8 @@ use Rattle.undo.proofs.valid_for.Tie as tie
 returns : tie.Need-returns
 returns c = rw (c .if1 .taken)
 
-valid-value-requires : tie.Need-valid-value-requires
-valid-value-requires c κs = search needs
-
 returns-2 : tie.Need-returns-2
 returns-2 c = rw (c .before .if1 .left) (c .valid-value .ensures)
 
 pub valid-for-spec : {M : Type 1} → statement M
-valid-for-spec = tie.close (tie.spec returns valid-value-requires returns-2)
+valid-for-spec = tie.close (tie.spec returns (λ c κs. search needs) returns-2)

@@ -5,9 +5,6 @@ use Rattle.record.specs.Limits.{status-slot, mode-slot, valid-value}
 use Rattle.record.proofs.limits.valid_value.Statement.{statement}
 use Rattle.record.proofs.limits.valid_value.Tie as tie
 
-valid-status-requires : tie.Need-valid-status-requires
-valid-status-requires c κs = search needs
-
 returns : tie.Need-returns
 unfolding valid-value
 returns c =
@@ -27,4 +24,4 @@ returns-3 c =
     rw (ne-eqb (a .place) status-slot (c .before .if1 .left), ne-eqb (a .place) mode-slot (c .if2 .left))
 
 pub valid-value-spec : {M : Type 1} → statement M
-valid-value-spec = tie.close (tie.spec valid-status-requires returns returns-2 returns-3)
+valid-value-spec = tie.close (tie.spec (λ c κs. search needs) returns returns-2 returns-3)
