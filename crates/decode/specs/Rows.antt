@@ -119,7 +119,8 @@ no-instruction =
 -- data movement [003 3.2]
 abbrev pub data-movement : List Row
 data-movement =
-    -- [003 B MOVE]: bits 15-12 give the size (1 byte, 3 word, 2 long); bits 8-6 and 11-9 are the destination, data alterable; An is no byte source
+    -- [003 B MOVE]: the line is the size (1 byte, 3 word, 2 long); bits 8-6 and 11-9 are the destination, data alterable
+    -- An is no byte source
     row 1 any (is 0) data-mode k.Move ∷
     row 1 any (to 2 6) data-mode k.Move ∷
     row 1 (to 0 1) (is 7) data-mode k.Move ∷
@@ -175,7 +176,7 @@ integer-arithmetic =
     row 9 any (is 0) data-mode k.SubToRegister ∷
     row 9 any (to 1 2) every-mode k.SubToRegister ∷
     row 9 any (to 4 6) memory-alterable k.SubToMemory ∷
-    -- [003 B SUBA]
+    -- [003 B SUBA] [003 C SUBA]
     row 9 any (is 3) every-mode k.SubA ∷
     row 9 any (is 7) every-mode k.SubA ∷
     -- [003 B SUBI]
@@ -307,13 +308,15 @@ system-control =
     -- [003 B TRAP], [003 B TRAPV] $4E76
     row 4 (is 7) (is 1) (one (to 0 15)) k.Trap ∷
     row 4 (is 7) (is 1) (one (is 54)) k.TrapV ∷
-    -- [003 B CHK], its picture is lost; A10
+    -- [003 B CHK]: its picture is lost in every copy; the pattern agrees with an outside list of all words (crate opmap)
     row 4 any (is 6) data-mode k.Chk ∷
     []
 
 -- all rows of the MC68000 [003 B]
 unfoldable pub rows : List Row
-rows = no-instruction ++ (data-movement ++ (integer-arithmetic ++ (logical ++ (shift-and-rotate ++ (bit-manipulation ++ (binary-coded-decimal ++ (program-control ++ (system-control))))))))
+rows =
+    no-instruction ++ (data-movement ++ (integer-arithmetic ++ (logical ++ (shift-and-rotate ++
+    (bit-manipulation ++ (binary-coded-decimal ++ (program-control ++ system-control)))))))
 
 -- whether a row fits the line, bits 11 to 9, bits 8 to 6 and the low six bits [ours]
 unfoldable pub fits : Row → ℕ → ℕ → ℕ → ℕ → Bool

@@ -1,7 +1,7 @@
 // main.rt - prints the kinds of all 65,536 operation words as runs of equal names, a line to a run: first word, last word, name.
 // Means: nothing; its stored output is made from a list of names that is not ours, and shows no difference.
 // Uses: decode, io.  Source: [003 B], the names' parts.
-ghost use Prim.Native.Nat.{_<_, _≤_};
+ghost use Prim.Native.Nat.{_<_};
 
 mod names;
 
