@@ -24,10 +24,11 @@ longest-record = 536
 abbrev pub slots-longest : ℕ
 slots-longest = 114
 
--- The slots of the status register and of the mode. [01 State]
+-- The slot of the status register. [01 State]
 abbrev pub status-slot : ℕ
 status-slot = 18
 
+-- The slot of the mode. [01 State]
 abbrev pub mode-slot : ℕ
 mode-slot = 19
 

@@ -1,5 +1,5 @@
 -- Undo.antt - the last record of a journal, read from its end; whether it is well formed; and what undoing it gives.
--- Met by: src/lib.rt.  Laws: proofs/ReadLaws.antt, proofs/ShapeLaws.antt, proofs/UndoLaws.antt, proofs/ManyLaws.antt.
+-- Met by: src/lib.rt.  Laws: proofs/ReadLaws, JudgeLaws, ShapeLaws, UndoLaws, ManyLaws.
 -- Uses: record, numbers.  Source: [01 The journal].
 use Prim.Native.Nat.{ℕ, zero, suc, _≤_, _<_}
 use mathlib.Core.Path.{_≡_}
