@@ -2,7 +2,6 @@
 // Means: specs/Integer.antt.  Laws: proofs/IntegerLaws.antt.
 // Uses: bits, flags, alu, decimal, signed, bus, operand, plan.  Source: [003 3.3], [003 3.4], [003 3.7], [003 B], [01 Operands], [01 Arithmetic].
 ghost use mathlib.Core.Path.{_≡_};
-ghost use Prim.Native.Nat.{ℕ, _+_, _*_, _%_, _/_, _<_, _≤_};
 ghost use Rattle.bus.specs.Bus.{view-of};
 ghost use Rattle.plan.specs.Plans.{nothing};
 ghost use Rattle.integer.specs.Integer.{binary, address-sum, continuing, unary-result, product-by, quotient-by, only-flags, into-register, onto, alone};
