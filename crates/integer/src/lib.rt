@@ -2,7 +2,6 @@
 // Means: specs/Integer.antt.  Laws: proofs/IntegerLaws.antt.
 // Uses: bits, flags, alu, decimal, signed, bus, operand, plan.  Source: [003 3.3], [003 3.4], [003 3.7], [003 B], [01 Operands], [01 Arithmetic].
 ghost use mathlib.Core.Path.{_≡_};
-ghost use Prim.Native.Nat.{ℕ, _+_, _*_, _%_, _/_, _<_, _≤_};
 ghost use Rattle.bus.specs.Bus.{view-of};
 ghost use Rattle.plan.specs.Plans.{nothing};
 ghost use Rattle.integer.specs.Integer.{binary, address-sum, continuing, unary-result, product-by, quotient-by, only-flags, into-register, onto, alone};
@@ -13,7 +12,7 @@ use flags::Flagged;
 use plan::Plan;
 use signed::Divided;
 
-// Destination a and source b: 0 add, 1 subtract, 2 compare, 3 and, 4 or, 5 exclusive or.
+// Destination a and source b, by the number of the operation; the definition lists the numbers.
 fn binary(which: u32, a: u32, b: u32, old: u32, z: u32) -> Flagged
     ensures { λ c. ⌜ c ≡ binary which a b old z ⌝ }
 {
@@ -27,7 +26,7 @@ fn binary(which: u32, a: u32, b: u32, old: u32, z: u32) -> Flagged
     }
 }
 
-// Address a and source b, 32 bits: 0 add, 1 subtract.
+// Address a and source b, 32 bits.
 fn address_sum(which: u32, a: u32, b: u32) -> u32
     ensures { λ s. ⌜ s ≡ address-sum which a b ⌝ }
 {
@@ -37,7 +36,7 @@ fn address_sum(which: u32, a: u32, b: u32) -> u32
     }
 }
 
-// Destination a and source b, going on from a part before: 0 ADDX, 1 SUBX, 2 ABCD, 3 SBCD.
+// Destination a and source b, going on from a part before: ADDX, SUBX, ABCD, SBCD.
 fn continuing(which: u32, a: u32, b: u32, old: u32, z: u32) -> Flagged
     ensures { λ c. ⌜ c ≡ continuing which a b old z ⌝ }
 {
@@ -49,7 +48,7 @@ fn continuing(which: u32, a: u32, b: u32, old: u32, z: u32) -> Flagged
     }
 }
 
-// 0 NEG, 1 NEGX, 2 NOT, 3 CLR, 4 NBCD, 5 TAS, 6 EXT to size z.
+// NEG, NEGX, NOT, CLR, NBCD, TAS, EXT to size z.
 fn unary_result(which: u32, a: u32, old: u32, z: u32) -> Flagged
     ensures { λ c. ⌜ c ≡ unary-result which a old z ⌝ }
 {
@@ -64,7 +63,7 @@ fn unary_result(which: u32, a: u32, old: u32, z: u32) -> Flagged
     }
 }
 
-// 0 MULS, 1 MULU.
+// MULS, MULU.
 fn product_by(which: u32, a: u32, b: u32, old: u32) -> Flagged
     ensures { λ c. ⌜ c ≡ product-by which a b old ⌝ }
 {
@@ -74,7 +73,7 @@ fn product_by(which: u32, a: u32, b: u32, old: u32) -> Flagged
     }
 }
 
-// 0 DIVS, 1 DIVU.
+// DIVS, DIVU.
 fn quotient_by(which: u32, a: u32, b: u32, old: u32) -> Divided
     ensures { λ c. ⌜ c ≡ quotient-by which a b old ⌝ }
 {
@@ -270,7 +269,7 @@ pub fn test(r: &mut [u32; 17], mem: &[u8], op: u32, f: Flow) -> Plan
     only_flags(alu::moved(w.v, f.sr, z), g)
 }
 
-// MULS, MULU.
+// MULS, MULU <ea>,Dn.
 pub fn multiply(which: u32, r: &mut [u32; 17], mem: &[u8], op: u32, f: Flow) -> Plan
     ensures { λ p. ⌜ p ≡ multiply which (now (r .entry)) (view-of (now (mem .entry))) op f .p ⌝ }
     ensures { λ p. ⌜ now (r .exit) ≡ multiply which (now (r .entry)) (view-of (now (mem .entry))) op f .r ⌝ }
