@@ -1,1 +1,2 @@
 pub mod MovemLaws
+pub mod BlockLaws

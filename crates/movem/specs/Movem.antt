@@ -28,22 +28,22 @@ first-spot w f = record { list = w .list; k = 0; a = w .start; f = f }
 unfoldable pub next-spot : Way → Spot → Flow → Spot
 next-spot w d f = record { list = d .list / 2; k = plus (d .k) 1; a = pick (listed d) (plus (d .a) (w .step)) (d .a); f = f }
 
--- registers on the way, and where the walk stands  [ours]
-pub record Loading : Type 0 where
-  pub r : List ℕ
+-- what a walk changes, registers or memory, and where it stands  [ours]
+pub record Walk : Type 0 where
+  pub x : List ℕ
   pub d : Spot
 
 -- one register, if the list has it: bit 0 is D0, bit 8 A0; a word is carried on to 32 bits  [003 B MOVEM] [01 Operands]
-unfoldable pub load-one : View → ℕ → Way → Loading → Loading
+unfoldable pub load-one : View → ℕ → Way → Walk → Walk
 load-one v k w t =
     let d = t .d in
-    let x = read-sized v (d .a) (w .z) k (d .f) in
-    pick (listed d) (record { r = put (t .r) (d .k) (sign-extended (x .v) (w .z)); d = next-spot w d (x .f) })
-    (record { r = t .r; d = next-spot w d (d .f) })
+    let y = read-sized v (d .a) (w .z) k (d .f) in
+    pick (listed d) (record { x = put (t .x) (d .k) (sign-extended (y .v) (w .z)); d = next-spot w d (y .f) })
+    (record { x = t .x; d = next-spot w d (d .f) })
 
 -- all sixteen  [003 B MOVEM]
-abbrev pub load-list : List ℕ → View → ℕ → Way → Flow → Loading
-load-list r v k w f = iter (load-one v k w) 16 (record { r = r; d = first-spot w f })
+abbrev pub load-list : List ℕ → View → ℕ → Way → Flow → Walk
+load-list r v k w f = iter (load-one v k w) 16 (record { x = r; d = first-spot w f })
 
 -- MOVEM to registers: the list's word, then the mode's words; (An)+ leaves An at the final address even if An was listed  [003 B MOVEM] [01 Operands]
 unfoldable pub movem-to-registers : List ℕ → View → ℕ → Flow → Done
@@ -52,7 +52,7 @@ movem-to-registers r v op f =
     let l = next-word v f in
     let q = locate r v (op / 8 % 8) (op % 8) z (l .f) in
     let t = load-list r v (q .k) (record { z = z; list = l .v; start = q .at; step = 2 * z }) (q .f) in
-    record { r = put (t .r) (q .reg) (t .d .a); p = nothing (t .d .f) }
+    record { r = put (t .x) (q .reg) (t .d .a); p = nothing (t .d .f) }
 
 -- MOVEM to -(An): An falls by the size for each one of the list, and its first value goes into the plan  [003 B MOVEM] [01 Operands]
 unfoldable pub movem-down : List ℕ → ℕ → ℕ → Flow → Done
@@ -120,14 +120,9 @@ part-of r p k = pick (leb 8 (p .z)) (byte-of (p .v) (k % 16 + 2 - p .z % 2 * 2))
 unfoldable pub put-part : List ℕ → Plan → Way → Spot → List ℕ → List ℕ
 put-part r p w d m = pick (listed d) (put-sized m (d .a) (w .z) (part-of r p (d .k))) m
 
--- memory on the way, and where the walk stands  [ours]
-pub record Putting : Type 0 where
-  pub m : List ℕ
-  pub d : Spot
-
-unfoldable pub put-one : List ℕ → Plan → Way → Putting → Putting
-put-one r p w t = record { m = put-part r p w (t .d) (t .m); d = next-spot w (t .d) (p .f) }
+unfoldable pub put-one : List ℕ → Plan → Way → Walk → Walk
+put-one r p w t = record { x = put-part r p w (t .d) (t .x); d = next-spot w (t .d) (p .f) }
 
 -- memory after a block's writes  [003 B MOVEM] [003 B MOVEP]
 unfoldable pub block-put : List ℕ → List ℕ → Plan → List ℕ
-block-put m r p = let w = put-way r p in iter (put-one r p w) 16 (record { m = m; d = first-spot w (p .f) }) .m
+block-put m r p = let w = put-way r p in iter (put-one r p w) 16 (record { x = m; d = first-spot w (p .f) }) .x

@@ -63,15 +63,15 @@ fn next_spot(w: Way, d: Spot, f: Flow) -> Spot
 
 // Register k is loaded if the list has it; a word is carried on to 32 bits.
 fn load_one(r: &mut [u32; 17], mem: &[u8], k: u32, w: Way, d: Spot) -> Spot
-    ensures { λ e. ⌜ e ≡ load-one (view-of (now (mem .entry))) k w (record { r = now (r .entry); d = d }) .d ⌝ }
-    ensures { λ e. ⌜ now (r .exit) ≡ load-one (view-of (now (mem .entry))) k w (record { r = now (r .entry); d = d }) .r ⌝ }
+    ensures { λ e. ⌜ e ≡ load-one (view-of (now (mem .entry))) k w (record { x = now (r .entry); d = d }) .d ⌝ }
+    ensures { λ e. ⌜ now (r .exit) ≡ load-one (view-of (now (mem .entry))) k w (record { x = now (r .entry); d = d }) .x ⌝ }
 {
     let f = d.f;
     let on = d.list % 2 == 1;
     if on {
-        let x = bus::read_sized(mem, d.a, w.z, k, f);
-        let g = x.f;
-        operand::put(r, d.k, bits::sign_extended(x.v, w.z));
+        let y = bus::read_sized(mem, d.a, w.z, k, f);
+        let g = y.f;
+        operand::put(r, d.k, bits::sign_extended(y.v, w.z));
         return next_spot(w, d, g);
     }
     next_spot(w, d, f)
@@ -79,7 +79,7 @@ fn load_one(r: &mut [u32; 17], mem: &[u8], k: u32, w: Way, d: Spot) -> Spot
 
 fn load_list(r: &mut [u32; 17], mem: &[u8], k: u32, w: Way, f: Flow) -> Spot
     ensures { λ e. ⌜ e ≡ load-list (now (r .entry)) (view-of (now (mem .entry))) k w f .d ⌝ }
-    ensures { λ e. ⌜ now (r .exit) ≡ load-list (now (r .entry)) (view-of (now (mem .entry))) k w f .r ⌝ }
+    ensures { λ e. ⌜ now (r .exit) ≡ load-list (now (r .entry)) (view-of (now (mem .entry))) k w f .x ⌝ }
 {
     let mut d = first_spot(w, f);
     let mut j: u32 = 0;

@@ -1,0 +1,9 @@
+use Rattle.movem.proofs.MovemLaws.{block-room-is}
+use borrow.Author.Needs.{needs}
+use Rattle.movem.proofs.block_room.Statement.{statement}
+use Rattle.movem.proofs.block_room.Tie as tie
+
+pub block-room-spec : {M : Type 1} → statement M
+block-room-spec =
+    tie.close (tie.spec
+    (λ c κs. search needs) (λ c κs. search needs) (λ c. search block-room-is))
