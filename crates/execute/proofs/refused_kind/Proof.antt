@@ -1,0 +1,13 @@
+use borrow.Author.Needs.{needs}
+use Rattle.execute.specs.Dispatch.{refused-kind}
+use Rattle.execute.proofs.DispatchLaws.{arm-plan, arm-registers, last-plan, last-registers}
+use Rattle.execute.proofs.refused_kind.Statement.{statement}
+use Rattle.execute.proofs.refused_kind.Tie as tie
+
+pub refused-kind-spec : {M : Type 1} → statement M
+unfolding refused-kind
+refused-kind-spec =
+    tie.close (tie.spec
+    (λ c κs. search needs) (λ c κs. search needs) (λ c κs. search needs)
+    (λ c. (search arm-plan, search arm-registers)) (λ c. (search arm-plan, search arm-registers))
+    (λ c. (search (last-plan, c .before .match .rest), search (last-registers, c .before .match .rest))))

@@ -1,0 +1,212 @@
+// lib.rt - the instruction of an operation word: its kind, whether it may be done in this state, and the family's function.
+// Means: specs/Dispatch.antt.  Laws: proofs/DispatchLaws.antt.
+// Uses: bits, bus, plan, decode, movement, movem, integer, bitwise, control, system.  Source: [01 step 2], [01 step 4], [003 4.3].
+ghost use mathlib.Core.Path.{_≡_};
+ghost use Prim.Native.Nat.{ℕ, _+_, _*_, _%_, _/_, _<_, _≤_};
+ghost use Rattle.bus.specs.Bus.{view-of};
+ghost use Rattle.execute.specs.Dispatch.{refused-plan, refused-kind, movement-kind, integer-kind, logical-kind, control-kind, system-kind, dispatch, as-user, execute};
+use bus::Flow;
+use plan::Plan;
+
+// A refused instruction: the saved PC is its own address.
+fn refused(vec: u32, f: Flow) -> Plan
+    ensures { λ p. ⌜ p ≡ refused-plan vec f ⌝ }
+{
+    plan::refusing(vec, bits::minus(f.pc, 2), f)
+}
+
+// Kinds 0 to 2: illegal, and words that begin 1010 and 1111.
+fn refused_kind(j: u32, r: &[u32; 17], mem: &[u8], op: u32, f: Flow) -> Plan
+    ensures { λ p. ⌜ p ≡ refused-kind j (now (r .entry)) (view-of (now (mem .entry))) op f .p ⌝ }
+    ensures { λ p. ⌜ now (r .entry) ≡ refused-kind j (now (r .entry)) (view-of (now (mem .entry))) op f .r ⌝ }
+{
+    match j {
+        0 => refused(4, f),
+        1 => refused(10, f),
+        _ => refused(11, f),
+    }
+}
+
+// Kinds 3 to 17.
+fn movement_kind(j: u32, r: &mut [u32; 17], mem: &[u8], op: u32, f: Flow) -> Plan
+    ensures { λ p. ⌜ p ≡ movement-kind j (now (r .entry)) (view-of (now (mem .entry))) op f .p ⌝ }
+    ensures { λ p. ⌜ now (r .exit) ≡ movement-kind j (now (r .entry)) (view-of (now (mem .entry))) op f .r ⌝ }
+{
+    match j {
+        0 => movement::move_data(r, mem, op, f),
+        1 => movement::move_address(r, mem, op, f),
+        2 => movement::move_quick(r, mem, op, f),
+        3 => movem::movem_to_memory(r, mem, op, f),
+        4 => movem::movem_to_registers(r, mem, op, f),
+        5 => movement::movep_to_register(r, mem, op, f),
+        6 => movement::movep_to_memory(r, mem, op, f),
+        7 => movement::load_address(r, mem, op, f),
+        8 => movement::push_address(r, mem, op, f),
+        9 => movement::exchange_data(r, mem, op, f),
+        10 => movement::exchange_address(r, mem, op, f),
+        11 => movement::exchange_both(r, mem, op, f),
+        12 => movement::swap(r, mem, op, f),
+        13 => movement::link(r, mem, op, f),
+        _ => movement::unlink(r, mem, op, f),
+    }
+}
+
+// Kinds 18 to 45.
+fn integer_kind(j: u32, r: &mut [u32; 17], mem: &[u8], op: u32, f: Flow) -> Plan
+    ensures { λ p. ⌜ p ≡ integer-kind j (now (r .entry)) (view-of (now (mem .entry))) op f .p ⌝ }
+    ensures { λ p. ⌜ now (r .exit) ≡ integer-kind j (now (r .entry)) (view-of (now (mem .entry))) op f .r ⌝ }
+{
+    match j {
+        0 => integer::to_register(0, r, mem, op, f),
+        1 => integer::to_memory(0, r, mem, op, f),
+        2 => integer::to_address(0, r, mem, op, f),
+        3 => integer::immediate_to(0, r, mem, op, f),
+        4 => integer::quick_to(0, r, mem, op, f),
+        5 => integer::quick_address(0, r, op, f),
+        6 => integer::paired(0, r, mem, op, f),
+        7 => integer::to_register(1, r, mem, op, f),
+        8 => integer::to_memory(1, r, mem, op, f),
+        9 => integer::to_address(1, r, mem, op, f),
+        10 => integer::immediate_to(1, r, mem, op, f),
+        11 => integer::quick_to(1, r, mem, op, f),
+        12 => integer::quick_address(1, r, op, f),
+        13 => integer::paired(1, r, mem, op, f),
+        14 => integer::unary(0, r, mem, op, f),
+        15 => integer::unary(1, r, mem, op, f),
+        16 => integer::unary(3, r, mem, op, f),
+        17 => integer::to_register(2, r, mem, op, f),
+        18 => integer::compare_address(r, mem, op, f),
+        19 => integer::compare_immediate(r, mem, op, f),
+        20 => integer::compare_memory(r, mem, op, f),
+        21 => integer::multiply(0, r, mem, op, f),
+        22 => integer::multiply(1, r, mem, op, f),
+        23 => integer::divide(0, r, mem, op, f),
+        24 => integer::divide(1, r, mem, op, f),
+        25 => integer::extend(r, mem, op, f),
+        26 => integer::unary(5, r, mem, op, f),
+        _ => integer::test(r, mem, op, f),
+    }
+}
+
+// Kinds 46 to 61: logical, shift and rotate, bit, decimal.
+fn logical_kind(j: u32, r: &mut [u32; 17], mem: &[u8], op: u32, f: Flow) -> Plan
+    ensures { λ p. ⌜ p ≡ logical-kind j (now (r .entry)) (view-of (now (mem .entry))) op f .p ⌝ }
+    ensures { λ p. ⌜ now (r .exit) ≡ logical-kind j (now (r .entry)) (view-of (now (mem .entry))) op f .r ⌝ }
+{
+    match j {
+        0 => integer::to_register(3, r, mem, op, f),
+        1 => integer::to_memory(3, r, mem, op, f),
+        2 => integer::immediate_to(3, r, mem, op, f),
+        3 => integer::to_register(4, r, mem, op, f),
+        4 => integer::to_memory(4, r, mem, op, f),
+        5 => integer::immediate_to(4, r, mem, op, f),
+        6 => integer::to_memory(5, r, mem, op, f),
+        7 => integer::immediate_to(5, r, mem, op, f),
+        8 => integer::unary(2, r, mem, op, f),
+        9 => bitwise::shift_register(r, mem, op, f),
+        10 => bitwise::shift_memory(r, mem, op, f),
+        11 => bitwise::bit_dynamic(r, mem, op, f),
+        12 => bitwise::bit_static(r, mem, op, f),
+        13 => integer::paired(2, r, mem, op, f),
+        14 => integer::paired(3, r, mem, op, f),
+        _ => integer::unary(4, r, mem, op, f),
+    }
+}
+
+// Kinds 62 to 71.
+fn control_kind(j: u32, r: &mut [u32; 17], mem: &[u8], op: u32, f: Flow) -> Plan
+    ensures { λ p. ⌜ p ≡ control-kind j (now (r .entry)) (view-of (now (mem .entry))) op f .p ⌝ }
+    ensures { λ p. ⌜ now (r .exit) ≡ control-kind j (now (r .entry)) (view-of (now (mem .entry))) op f .r ⌝ }
+{
+    match j {
+        0 => control::branch(mem, op, f),
+        1 => control::branch(mem, op, f),
+        2 => control::branch_subroutine(r, mem, op, f),
+        3 => control::decrement_branch(r, mem, op, f),
+        4 => control::set_condition(r, mem, op, f),
+        5 => control::jump_to(r, mem, op, f),
+        6 => control::jump_subroutine(r, mem, op, f),
+        7 => control::no_operation(f),
+        8 => control::return_restore(r, mem, op, f),
+        _ => control::return_subroutine(r, mem, op, f),
+    }
+}
+
+// Kinds 72 to 88.
+fn system_kind(j: u32, r: &mut [u32; 17], mem: &[u8], op: u32, f: Flow) -> Plan
+    ensures { λ p. ⌜ p ≡ system-kind j (now (r .entry)) (view-of (now (mem .entry))) op f .p ⌝ }
+    ensures { λ p. ⌜ now (r .exit) ≡ system-kind j (now (r .entry)) (view-of (now (mem .entry))) op f .r ⌝ }
+{
+    match j {
+        0 => system::immediate_to_ccr(0, mem, f),
+        1 => system::immediate_to_sr(0, mem, f),
+        2 => system::immediate_to_ccr(2, mem, f),
+        3 => system::immediate_to_sr(2, mem, f),
+        4 => system::immediate_to_ccr(1, mem, f),
+        5 => system::immediate_to_sr(1, mem, f),
+        6 => system::move_from_sr(r, mem, op, f),
+        7 => system::move_to_ccr(r, mem, op, f),
+        8 => system::move_to_sr(r, mem, op, f),
+        9 => system::move_to_usp(r, op, f),
+        10 => system::move_from_usp(r, op, f),
+        11 => system::reset_devices(f),
+        12 => system::return_exception(r, mem, op, f),
+        13 => system::stop(mem, f),
+        14 => system::trap(op, f),
+        15 => system::trap_overflow(f),
+        _ => system::check_bounds(r, mem, op, f),
+    }
+}
+
+// The function of a kind.
+fn dispatch(k: u32, r: &mut [u32; 17], mem: &[u8], op: u32, f: Flow) -> Plan
+    ensures { λ p. ⌜ p ≡ dispatch k (now (r .entry)) (view-of (now (mem .entry))) op f .p ⌝ }
+    ensures { λ p. ⌜ now (r .exit) ≡ dispatch k (now (r .entry)) (view-of (now (mem .entry))) op f .r ⌝ }
+{
+    let first = k < 3;
+    if first {
+        return refused_kind(k, r, mem, op, f);
+    }
+    let second = k < 18;
+    if second {
+        return movement_kind(k - 3, r, mem, op, f);
+    }
+    let third = k < 46;
+    if third {
+        return integer_kind(k - 18, r, mem, op, f);
+    }
+    let fourth = k < 62;
+    if fourth {
+        return logical_kind(k - 46, r, mem, op, f);
+    }
+    let fifth = k < 72;
+    if fifth {
+        return control_kind(k - 62, r, mem, op, f);
+    }
+    system_kind(k - 72, r, mem, op, f)
+}
+
+// In user state a privileged instruction is refused.
+fn as_user(k: u32, r: &mut [u32; 17], mem: &[u8], op: u32, f: Flow) -> Plan
+    ensures { λ p. ⌜ p ≡ as-user k (now (r .entry)) (view-of (now (mem .entry))) op f .p ⌝ }
+    ensures { λ p. ⌜ now (r .exit) ≡ as-user k (now (r .entry)) (view-of (now (mem .entry))) op f .r ⌝ }
+{
+    let high = decode::privileged(k);
+    if high {
+        return refused(8, f);
+    }
+    dispatch(k, r, mem, op, f)
+}
+
+// The operation word alone decides illegal and privileged.
+pub fn execute(r: &mut [u32; 17], mem: &[u8], op: u32, f: Flow) -> Plan
+    ensures { λ p. ⌜ p ≡ execute (now (r .entry)) (view-of (now (mem .entry))) op f .p ⌝ }
+    ensures { λ p. ⌜ now (r .exit) ≡ execute (now (r .entry)) (view-of (now (mem .entry))) op f .r ⌝ }
+{
+    let k = decode::kind_of(op);
+    let user = f.sr / 8192 % 2 == 0;
+    if user {
+        return as_user(k, r, mem, op, f);
+    }
+    dispatch(k, r, mem, op, f)
+}
