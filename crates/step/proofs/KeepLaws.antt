@@ -26,7 +26,8 @@ use Rattle.record.specs.Change.{diffs}
 use Rattle.plan.specs.declared.Plan.{Plan}
 use Rattle.bank.specs.Bank.{ssp-of, pc-of, sr-of, mode-of, supervisor, tracing, long, bank, sr-after, mode-after, settle}
 use Rattle.exception.specs.Exceptions.{Stepped, fresh, supervisor-sr, halted, enter, small-room, small-frame, exception, big-room, big-frame, fault-taken, fault}
-use Rattle.step.specs.Steps.{attempt, commit, trap-of, trap, traced, both, after, instruction, interrupt-sr, interrupt, one-step}
+use Rattle.step.specs.declared.Tried.{Tried}
+use Rattle.step.specs.Steps.{conclude, attempt, commit, trap-of, trap, traced, both, after, instruction, interrupt-sr, interrupt, one-step}
 use Rattle.step.proofs.PlacesLaws.{pick-cases, each-at, each-set, Touches, touches-none, touches-then, touches-most, writes-of-small-frame, writes-of-big-frame, writes-of-commit}
 
 -- ---- status registers
@@ -228,14 +229,18 @@ module _ (s m : List ℕ) (hs : Sound s) (hm : ValidBytes m) where
       (record { slots = x .slots; memory = touches-then w (x .memory) })
 
 module _ (s m : List ℕ) (hs : Sound s) (hm : ValidBytes m) where
+  pub reaches-of-conclude : (r : List ℕ) (t : Tried) → Reaches 70 m (conclude s m r t)
+  unfolding conclude
+  reaches-of-conclude r t =
+      let p = t .p in
+      pick-cases (Reaches 70 m) (eqb (p .f .bad) 0)
+      (reaches-of-after (settle s r p) m (sound-of-settle s r p hs) hm r p (tracing (sr-of s)))
+      (reaches-most (reaches-of-fault s m hs hm (p .f .bad) (t .op)) (omega arith))
+
   pub reaches-of-instruction : Reaches 70 m (instruction s m)
   unfolding instruction
   reaches-of-instruction =
-      let a = attempt (bank s) (view-of m) (fresh (pc-of s) (sr-of s)) in
-      let p = a .t .p in
-      pick-cases (Reaches 70 m) (eqb (p .f .bad) 0)
-      (reaches-of-after (settle s (a .r) p) m (sound-of-settle s (a .r) p hs) hm (a .r) p (tracing (sr-of s)))
-      (reaches-most (reaches-of-fault s m hs hm (p .f .bad) (a .t .op)) (omega arith))
+      let a = attempt (bank s) (view-of m) (fresh (pc-of s) (sr-of s)) in reaches-of-conclude (a .r) (a .t)
 
   pub reaches-of-one-step : (level vector : ℕ) → Reaches 70 m (one-step s m level vector)
   unfolding one-step

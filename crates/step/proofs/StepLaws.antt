@@ -1,0 +1,207 @@
+-- StepLaws.antt - one law for each return of the functions of step, as an equation of whole outcomes where that can be had.
+-- slots-by, memory-by, event-by take a part of such an equation.
+-- Uses: bits, bus, plan, bank, exception, execute.
+use Prim.Native.Nat.{ℕ, _+_, _*_, _%_, _/_, _<_}
+use native.Mathlib.Omega.{arith}
+use mathlib.Core.Path.{_≡_, refl, sym, ap, _∙_}
+use mathlib.Core.Bool.{Bool, true, false, _&&_, _||_, not}
+use mathlib.Core.List.{List}
+use lib.Dec.{ltb, eqb}
+use borrow.Author.Tests.{eqb-true}
+use Rattle.bits.specs.Bits.{pick, bit}
+use Rattle.bus.specs.declared.Flow.{Flow}
+use Rattle.bus.specs.declared.Fetched.{Fetched}
+use Rattle.bus.specs.Bus.{View, view-of, next-word, room, put-sized}
+use Rattle.plan.specs.declared.Plan.{Plan}
+use Rattle.movem.specs.Movem.{block-room, block-put}
+use Rattle.bank.specs.Bank.{pc-of, sr-of, mode-of, tracing, bank, settle}
+use Rattle.exception.specs.Exceptions.{Stepped, fresh, supervisor-sr, exception, fault}
+use Rattle.execute.specs.Dispatch.{execute}
+use Rattle.step.specs.declared.Tried.{Tried}
+use Rattle.step.specs.Steps.{with-flow, checked, attempt, commit, trap-of, trap, traced, both, after, conclude, instruction, interrupt-sr, interrupt, one-step}
+
+-- a part of an outcome
+module _ (x y : Stepped) (e : x ≡ y) where
+  pub slots-by : (t : List ℕ) → t ≡ x .s → t ≡ y .s
+  slots-by t d = cc
+
+  pub memory-by : (t : List ℕ) → t ≡ x .m → t ≡ y .m
+  memory-by t d = cc
+
+  pub event-by : (t : ℕ) → t ≡ x .event → t ≡ y .event
+  event-by t d = cc
+
+-- nothing happened
+abbrev still : List ℕ → List ℕ → Stepped
+still s m = record { s = s; m = m; event = 0 }
+
+module _ (v : View) (p q : Plan) (g : Flow) where
+  pub checked-none : eqb (p .z) 3 ≡ true → p ≡ checked v p
+  unfolding checked
+  checked-none t = cc
+
+  pub checked-one : eqb (p .z) 3 ≡ false → ltb (p .z) 3 ≡ true → g ≡ room v (p .at) (p .z) (p .f) → q ≡ with-flow p g → q ≡ checked v p
+  unfolding checked
+  checked-one t u e d = cc
+
+  pub checked-block : eqb (p .z) 3 ≡ false → ltb (p .z) 3 ≡ false → g ≡ block-room v p → q ≡ with-flow p g → q ≡ checked v p
+  unfolding checked
+  checked-block t u e d = cc
+
+module _ (r t : List ℕ) (v : View) (f : Flow) (w : Fetched) (p q : Plan) (e : w ≡ next-word v f) where
+  pub attempt-tried : p ≡ execute r v (w .v) (w .f) .p → q ≡ checked v p → record { op = w .v; p = q } ≡ attempt r v f .t
+  unfolding attempt
+  attempt-tried d h = cc
+
+  pub attempt-registers : t ≡ execute r v (w .v) (w .f) .r → t ≡ attempt r v f .r
+  unfolding attempt
+  attempt-registers d = cc
+
+module _ (m r o : List ℕ) (p : Plan) where
+  pub commit-one : ltb (p .z) 3 ≡ true → o ≡ put-sized m (p .at) (p .z) (p .v) → o ≡ commit m r p
+  unfolding commit
+  commit-one t e = cc
+
+  pub commit-block : ltb (p .z) 3 ≡ false → o ≡ block-put m r p → o ≡ commit m r p
+  unfolding commit
+  commit-block t e = cc
+
+module _ (p : Plan) where
+  pub trap-of-vector : ltb (p .event) 256 ≡ true → p .event ≡ trap-of p
+  unfolding trap-of
+  trap-of-vector t = cc
+
+  pub trap-of-stop : ltb (p .event) 256 ≡ false → 0 ≡ trap-of p
+  unfolding trap-of
+  trap-of-stop t = cc
+
+module _ (s m : List ℕ) (vec : ℕ) where
+  pub trap-some : (sr : ℕ) → sr ≡ supervisor-sr (sr-of s) → ltb 0 vec ≡ true → exception s m vec sr ≡ trap s m vec
+  unfolding trap
+  trap-some sr e t = cc
+
+  pub trap-none-slots : ltb 0 vec ≡ false → s ≡ trap s m vec .s
+  unfolding trap
+  trap-none-slots t = cc
+
+  pub trap-none-memory : ltb 0 vec ≡ false → m ≡ trap s m vec .m
+  unfolding trap
+  trap-none-memory t = cc
+
+  pub trap-none-event : ltb 0 vec ≡ false → 0 ≡ trap s m vec .event
+  unfolding trap
+  trap-none-event t = cc
+
+pub traced-is : (vec event b : ℕ) (trace : Bool) → b ≡ bit (trace && not (eqb vec 4 || eqb vec 8 || eqb vec 10 || eqb vec 11) && not (eqb event 257)) → b * 9 ≡ traced vec trace event
+unfolding traced
+traced-is vec event b trace e = cc
+
+-- a trap with outcome s₁, m₁, x, and the trace after it
+module _ (s m s₁ m₁ : List ℕ) (vec x y : ℕ) (trace : Bool) (e1 : s₁ ≡ trap s m vec .s) (e2 : m₁ ≡ trap s m vec .m) (e3 : x ≡ trap s m vec .event) (e4 : y ≡ traced vec trace x) where
+  pub both-slots : (t : List ℕ) → t ≡ trap s₁ m₁ y .s → t ≡ both s m vec trace .s
+  unfolding both
+  both-slots t e = cc
+
+  pub both-memory : (t : List ℕ) → t ≡ trap s₁ m₁ y .m → t ≡ both s m vec trace .m
+  unfolding both
+  both-memory t e = cc
+
+  pub both-second : (t : ℕ) → eqb x 0 ≡ true → t ≡ trap s₁ m₁ y .event → t ≡ both s m vec trace .event
+  unfolding both
+  both-second t h e = cc
+
+pub both-first : (s m : List ℕ) (vec x : ℕ) (trace : Bool) → x ≡ trap s m vec .event → eqb x 0 ≡ false → x ≡ both s m vec trace .event
+unfolding both
+both-first s m vec x trace e h = cc
+
+-- no trap and no trace
+both-quiet : (s m : List ℕ) → still s m ≡ both s m 0 false
+unfolding both trap traced
+both-quiet s m = cc
+
+zero-when-quiet : (vec : ℕ) (trace : Bool) → (eqb vec 0 && not trace) ≡ true → (eqb vec 0 ≡ true) × (trace ≡ false)
+zero-when-quiet vec trace h = go (eqb vec 0) trace h
+  where
+    go : (a b : Bool) → (a && not b) ≡ true → (a ≡ true) × (b ≡ false)
+    go true true h = (refl, absurd (let z : _≡_ {A = ℕ} 0 1 = cc in omega arith))
+    go true false h = (refl, refl)
+    go false b h = (h, absurd (let z : _≡_ {A = ℕ} 0 1 = cc in omega arith))
+
+module _ (s m r : List ℕ) (p : Plan) (trace : Bool) where
+  module _ (t : eqb (p .z) 3 ≡ true) (vec : ℕ) (e : vec ≡ trap-of p) where
+    quiet : (eqb vec 0 && not trace) ≡ true → still s m ≡ after s m r p trace
+    unfolding after
+    quiet h =
+        let q = zero-when-quiet vec trace h in
+        let z : vec ≡ 0 = eqb-true vec 0 (q .0) in
+        let b : still s m ≡ both s m (trap-of p) trace = rw (sym e ∙ z, q .1) (both-quiet s m) in cc
+
+    pub after-quiet-slots : (eqb vec 0 && not trace) ≡ true → s ≡ after s m r p trace .s
+    after-quiet-slots h = ap (λ (x : Stepped). x .s) (quiet h)
+
+    pub after-quiet-memory : (eqb vec 0 && not trace) ≡ true → m ≡ after s m r p trace .m
+    after-quiet-memory h = ap (λ (x : Stepped). x .m) (quiet h)
+
+    pub after-quiet-event : (eqb vec 0 && not trace) ≡ true → 0 ≡ after s m r p trace .event
+    after-quiet-event h = ap (λ (x : Stepped). x .event) (quiet h)
+
+    pub after-trap : both s m vec trace ≡ after s m r p trace
+    unfolding after
+    after-trap = cc
+
+  module _ (t : eqb (p .z) 3 ≡ false) (n : List ℕ) (e : n ≡ commit m r p) where
+    pub after-trace : trace ≡ true → trap s n 9 ≡ after s m r p trace
+    unfolding after
+    after-trace h = cc
+
+    pub after-write-slots : trace ≡ false → s ≡ after s m r p trace .s
+    unfolding after trap
+    after-write-slots h = cc
+
+    pub after-write-memory : trace ≡ false → n ≡ after s m r p trace .m
+    unfolding after trap
+    after-write-memory h = cc
+
+    pub after-write-event : trace ≡ false → 0 ≡ after s m r p trace .event
+    unfolding after trap
+    after-write-event h = cc
+
+-- the end of an instruction: t is what was tried, r the registers then
+module _ (s m r : List ℕ) (t : Tried) where
+  pub conclude-fine : (s₁ : List ℕ) (b : Bool) → eqb (t .p .f .bad) 0 ≡ true → b ≡ tracing (sr-of s) → s₁ ≡ settle s r (t .p) → after s₁ m r (t .p) b ≡ conclude s m r t
+  unfolding conclude
+  conclude-fine s₁ b h e d = cc
+
+  pub conclude-faults : eqb (t .p .f .bad) 0 ≡ false → fault s m (t .p .f .bad) (t .op) ≡ conclude s m r t
+  unfolding conclude
+  conclude-faults h = cc
+
+pub instruction-is : (s m r₀ r : List ℕ) (f : Flow) (t : Tried) → r₀ ≡ bank s → f ≡ fresh (pc-of s) (sr-of s) → t ≡ attempt r₀ (view-of m) f .t → r ≡ attempt r₀ (view-of m) f .r → conclude s m r t ≡ instruction s m
+unfolding instruction
+instruction-is s m r₀ r f t e1 e2 e3 e4 = cc
+
+module _ (s m : List ℕ) (level vector : ℕ) where
+  pub interrupt-is : (sr : ℕ) → sr ≡ interrupt-sr (sr-of s) level → exception s m vector sr ≡ interrupt s m level vector
+  unfolding interrupt
+  interrupt-is sr e = cc
+
+  pub step-interrupted : (eqb level 7 || ltb (sr-of s / 256 % 8) level) ≡ true → interrupt s m level vector ≡ one-step s m level vector
+  unfolding one-step
+  step-interrupted h = cc
+
+  module _ (h : (eqb level 7 || ltb (sr-of s / 256 % 8) level) ≡ false) where
+    pub step-instruction : eqb (mode-of s) 0 ≡ true → instruction s m ≡ one-step s m level vector
+    unfolding one-step
+    step-instruction k = cc
+
+    pub step-stopped-slots : eqb (mode-of s) 0 ≡ false → s ≡ one-step s m level vector .s
+    unfolding one-step
+    step-stopped-slots k = cc
+
+    pub step-stopped-memory : eqb (mode-of s) 0 ≡ false → m ≡ one-step s m level vector .m
+    unfolding one-step
+    step-stopped-memory k = cc
+
+    pub step-stopped-event : eqb (mode-of s) 0 ≡ false → 0 ≡ one-step s m level vector .event
+    unfolding one-step
+    step-stopped-event k = cc

@@ -1,0 +1,9 @@
+use Rattle.step.proofs.StepLaws.{attempt-registers, attempt-tried}
+use borrow.Author.Needs.{needs}
+use Rattle.step.proofs.attempt.Statement.{statement}
+use Rattle.step.proofs.attempt.Tie as tie
+
+pub attempt-spec : {M : Type 1} → statement M
+attempt-spec =
+    tie.close (tie.spec
+    (λ c κs. search needs) (λ c κs. search needs) (λ c κs. search needs) (λ c. (search attempt-tried, search attempt-registers)))

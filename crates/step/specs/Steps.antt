@@ -1,0 +1,88 @@
+-- Steps.antt - one whole step: slots and memory before and a request give slots, memory and the event. It follows [01 One step].
+-- Not modelled: prefetch, bus cycles, clocks, the edge of level 7.
+-- Laws: proofs/StepLaws.antt.  Source: [01 One step], [003 4].
+use Prim.Native.Nat.{ℕ, _+_, _*_, _%_, _/_}
+use mathlib.Core.Bool.{Bool, true, false, _&&_, _||_, not}
+use mathlib.Core.List.{List}
+use lib.Dec.{ltb, eqb}
+use Rattle.bits.specs.Bits.{pick, bit}
+use Rattle.bus.specs.declared.Flow.{Flow}
+use Rattle.bus.specs.Bus.{View, view-of, next-word, room, put-sized}
+use Rattle.plan.specs.declared.Plan.{Plan}
+use Rattle.movem.specs.Movem.{block-room, block-put}
+use Rattle.bank.specs.Bank.{pc-of, sr-of, mode-of, tracing, bank, settle}
+use Rattle.exception.specs.Exceptions.{Stepped, fresh, supervisor-sr, exception, fault}
+use Rattle.execute.specs.Dispatch.{execute}
+use Rattle.step.specs.declared.Tried.{Tried}
+
+-- the plan with another flow  [ours]
+abbrev pub with-flow : Plan → Flow → Plan
+with-flow p f = record { z = p .z; at = p .at; v = p .v; event = p .event; f = f }
+
+-- a write needs room: else it is the fault of its first failing word  [01 step 6] [01 step 7]
+unfoldable pub checked : View → Plan → Plan
+checked v p =
+    pick (eqb (p .z) 3) p
+    (pick (ltb (p .z) 3) (with-flow p (room v (p .at) (p .z) (p .f))) (with-flow p (block-room v p)))
+
+-- an operation word and its instruction, up to its writes: it sees the registers, PC, SR and the view of memory  [01 step 6]
+pub record Attempt : Type 0 where
+  pub r : List ℕ
+  pub t : Tried
+
+unfoldable pub attempt : List ℕ → View → Flow → Attempt
+attempt r v f =
+    let w = next-word v f in
+    let d = execute r v (w .v) (w .f) in
+    record { r = d .r; t = record { op = w .v; p = checked v (d .p) } }
+
+-- the write of a plan that has one  [01 step 6]
+unfoldable pub commit : List ℕ → List ℕ → Plan → List ℕ
+commit m r p = pick (ltb (p .z) 3) (put-sized m (p .at) (p .z) (p .v)) (block-put m r p)
+
+-- the vector of a plan's trap, or 0; event 256 is a stop  [01 step 2]
+unfoldable pub trap-of : Plan → ℕ
+trap-of p = pick (ltb (p .event) 256) (p .event) 0
+
+-- vector 0 stands for none here  [ours]
+unfoldable pub trap : List ℕ → List ℕ → ℕ → Stepped
+trap s m vec = pick (ltb 0 vec) (exception s m vec (supervisor-sr (sr-of s))) (record { s = s; m = m; event = 0 })
+
+-- trace, vector 9, follows if T was 1 at the start, unless the instruction was refused by 4, 8, 10, 11 or the machine halted  [01 step 5]
+unfoldable pub traced : ℕ → Bool → ℕ → ℕ
+traced vec trace event = bit (trace && not (eqb vec 4 || eqb vec 8 || eqb vec 10 || eqb vec 11) && not (eqb event 257)) * 9
+
+-- the trap, then the trace, whose "next" is the trap's handler; the first event counts  [01 step 3] [01 step 5]
+unfoldable pub both : List ℕ → List ℕ → ℕ → Bool → Stepped
+both s m vec trace =
+    let a = trap s m vec in
+    let b = trap (a .s) (a .m) (traced vec trace (a .event)) in
+    record { s = b .s; m = b .m; event = pick (eqb (a .event) 0) (b .event) (a .event) }
+
+-- an instruction that writes takes no trap; one that takes a trap writes nothing  [01 step 5] [01 step 6]
+unfoldable pub after : List ℕ → List ℕ → List ℕ → Plan → Bool → Stepped
+after s m r p trace = pick (eqb (p .z) 3) (both s m (trap-of p) trace) (trap s (commit m r p) (pick trace 9 0))
+
+-- the end of an instruction; one that faults keeps nothing of its work  [01 step 7]
+unfoldable pub conclude : List ℕ → List ℕ → List ℕ → Tried → Stepped
+conclude s m r t =
+    let p = t .p in
+    pick (eqb (p .f .bad) 0) (after (settle s r p) m r p (tracing (sr-of s))) (fault s m (p .f .bad) (t .op))
+
+-- one instruction  [01 One step]
+unfoldable pub instruction : List ℕ → List ℕ → Stepped
+instruction s m = let a = attempt (bank s) (view-of m) (fresh (pc-of s) (sr-of s)) in conclude s m (a .r) (a .t)
+
+-- S set, T clear, and the mask is the level, once SR is copied  [01 One step]
+abbrev pub interrupt-sr : ℕ → ℕ → ℕ
+interrupt-sr sr level = 8192 + level % 8 * 256 + sr % 256
+
+-- an interrupt: the saved PC is the current one  [01 One step]
+unfoldable pub interrupt : List ℕ → List ℕ → ℕ → ℕ → Stepped
+interrupt s m level vector = exception s m vector (interrupt-sr (sr-of s) level)
+
+-- level 7, or above the mask: the interrupt; else a machine that does not run changes nothing; else one instruction  [01 One step]
+unfoldable pub one-step : List ℕ → List ℕ → ℕ → ℕ → Stepped
+one-step s m level vector =
+    pick (eqb level 7 || ltb (sr-of s / 256 % 8) level) (interrupt s m level vector)
+    (pick (eqb (mode-of s) 0) (instruction s m) (record { s = s; m = m; event = 0 }))

@@ -1,0 +1,236 @@
+// lib.rt - one whole step: the attempt of an instruction, its writes, its trap, trace, interrupts, a stopped machine.
+// Means: specs/Steps.antt.  Laws: proofs/StepLaws.antt, proofs/NotedLaws.antt.
+// Uses: bits, bus, plan, movem, store, touch, bank, exception, execute.  Source: [01 One step].
+ghost use mathlib.Core.Path.{_≡_};
+ghost use Prim.Native.Nat.{ℕ, _+_, _≤_};
+ghost use lib.ListN.{length};
+ghost use Rattle.bus.specs.Bus.{view-of};
+ghost use Rattle.touch.specs.Touch.{LogOk, Noted};
+ghost use Rattle.step.specs.Steps.{with-flow, checked, attempt, commit, trap-of, trap, traced, both, after, conclude, instruction, interrupt-sr, interrupt, one-step};
+use bus::Flow;
+use exception::Ended;
+use plan::Plan;
+
+fn with_flow(p: Plan, f: Flow) -> Plan
+    ensures { λ q. ⌜ q ≡ with-flow p f ⌝ }
+{
+    Plan {
+        z: p.z,
+        at: p.at,
+        v: p.v,
+        event: p.event,
+        f,
+    }
+}
+
+// The plan, with the fault of a write for which there is no room.
+fn checked(mem: &[u8], p: Plan) -> Plan
+    ensures { λ q. ⌜ q ≡ checked (view-of (now (mem .entry))) p ⌝ }
+{
+    let f = p.f;
+    let none = p.z == 3;
+    let one = p.z < 3;
+    if none {
+        return p;
+    }
+    if one {
+        return with_flow(p, bus::room(mem, p.at, p.z, f));
+    }
+    with_flow(p, movem::block_room(mem, p))
+}
+
+// An operation word, and what is to be done for it.
+pub struct Tried {
+    pub op: u32,
+    pub p: Plan,
+}
+
+// An instruction, up to its writes: all that it sees are the registers, PC, SR and the view of memory.
+fn attempt(r: &mut [u32; 17], mem: &[u8], f: Flow) -> Tried
+    ensures { λ t. ⌜ t ≡ attempt (now (r .entry)) (view-of (now (mem .entry))) f .t ⌝ }
+    ensures { λ t. ⌜ now (r .exit) ≡ attempt (now (r .entry)) (view-of (now (mem .entry))) f .r ⌝ }
+{
+    let w = bus::next_word(mem, f);
+    let g = w.f;
+    let p = execute::execute(r, mem, w.v, g);
+    let q = checked(mem, p);
+    Tried { op: w.v, p: q }
+}
+
+// The write of a plan that has one.
+fn commit(mem: &mut [u8], log: &mut [u64], r: &[u32; 17], p: Plan) -> usize
+    requires { ⌜ LogOk (now mem) (now log) 0 × (64 ≤ length (now log)) ⌝ }
+    ensures { λ _. ⌜ now (mem .exit) ≡ commit (now (mem .entry)) (now (r .entry)) p ⌝ }
+    ensures { λ k. ⌜ Noted (now (mem .entry)) (now (log .entry)) 0 64 (now (mem .exit)) (now (log .exit)) k ⌝ }
+{
+    let one = p.z < 3;
+    if one {
+        return store::store_sized(mem, log, 0, p.at, p.z, p.v);
+    }
+    movem::block_store(mem, log, 0, r, p)
+}
+
+// The vector of a plan's trap, or 0.
+fn trap_of(p: Plan) -> u32
+    ensures { λ q. ⌜ q ≡ trap-of p ⌝ }
+{
+    let some = p.event < 256;
+    if some {
+        return p.event;
+    }
+    0
+}
+
+// The exception of a vector, and nothing for vector 0.
+fn trap(s: &mut [u32; 20], mem: &mut [u8], log: &mut [u64], n: usize, vec: u32) -> Ended
+    requires { ⌜ LogOk (now mem) (now log) n × (n + 6 ≤ length (now log)) ⌝ }
+    ensures { λ _. ⌜ now (s .exit) ≡ trap (now (s .entry)) (now (mem .entry)) vec .s ⌝ }
+    ensures { λ _. ⌜ now (mem .exit) ≡ trap (now (s .entry)) (now (mem .entry)) vec .m ⌝ }
+    ensures { λ e. ⌜ e .event ≡ trap (now (s .entry)) (now (mem .entry)) vec .event ⌝ }
+    ensures { λ e. ⌜ Noted (now (mem .entry)) (now (log .entry)) n 6 (now (mem .exit)) (now (log .exit)) (e .n) ⌝ }
+{
+    let some = 0 < vec;
+    if some {
+        let sr = exception::supervisor_sr(s[18]);
+        return exception::exception(s, mem, log, n, vec, sr);
+    }
+    Ended { n, event: 0 }
+}
+
+// The vector of the trace that follows, or 0: none after a refused instruction or a halt.
+fn traced(vec: u32, trace: bool, event: u32) -> u32
+    ensures { λ r. ⌜ r ≡ traced vec trace event ⌝ }
+{
+    let refused = (vec == 4) | (vec == 8) | (vec == 10) | (vec == 11);
+    let halted = event == 257;
+    bits::bit(trace & !refused & !halted) * 9
+}
+
+// A trap, and the trace after it: the first event counts.
+fn both(s: &mut [u32; 20], mem: &mut [u8], log: &mut [u64], vec: u32, trace: bool) -> Ended
+    requires { ⌜ LogOk (now mem) (now log) 0 × (12 ≤ length (now log)) ⌝ }
+    ensures { λ _. ⌜ now (s .exit) ≡ both (now (s .entry)) (now (mem .entry)) vec trace .s ⌝ }
+    ensures { λ _. ⌜ now (mem .exit) ≡ both (now (s .entry)) (now (mem .entry)) vec trace .m ⌝ }
+    ensures { λ e. ⌜ e .event ≡ both (now (s .entry)) (now (mem .entry)) vec trace .event ⌝ }
+    ensures { λ e. ⌜ Noted (now (mem .entry)) (now (log .entry)) 0 12 (now (mem .exit)) (now (log .exit)) (e .n) ⌝ }
+{
+    let a = trap(s, mem, log, 0, vec);
+    let b = trap(s, mem, log, a.n, traced(vec, trace, a.event));
+    let first = a.event == 0;
+    if first {
+        return b;
+    }
+    Ended {
+        n: b.n,
+        event: a.event,
+    }
+}
+
+// The end of an instruction that met no fault: its write and the trace; or, where it writes nothing, its trap and the trace.
+fn after(
+    s: &mut [u32; 20],
+    mem: &mut [u8],
+    log: &mut [u64],
+    r: &[u32; 17],
+    p: Plan,
+    trace: bool,
+) -> Ended
+    requires { ⌜ LogOk (now mem) (now log) 0 × (70 ≤ length (now log)) ⌝ }
+    ensures { λ _. ⌜ now (s .exit) ≡ after (now (s .entry)) (now (mem .entry)) (now (r .entry)) p trace .s ⌝ }
+    ensures { λ _. ⌜ now (mem .exit) ≡ after (now (s .entry)) (now (mem .entry)) (now (r .entry)) p trace .m ⌝ }
+    ensures { λ e. ⌜ e .event ≡ after (now (s .entry)) (now (mem .entry)) (now (r .entry)) p trace .event ⌝ }
+    ensures { λ e. ⌜ Noted (now (mem .entry)) (now (log .entry)) 0 70 (now (mem .exit)) (now (log .exit)) (e .n) ⌝ }
+{
+    let none = p.z == 3;
+    if none {
+        let vec = trap_of(p);
+        let quiet = (vec == 0) & !trace;
+        if quiet {
+            return Ended { n: 0, event: 0 };
+        }
+        return both(s, mem, log, vec, trace);
+    }
+    let n = commit(mem, log, r, p);
+    if trace {
+        return trap(s, mem, log, n, 9);
+    }
+    Ended { n, event: 0 }
+}
+
+// The end of an instruction. One that faults keeps nothing of its work: the slots were not touched.
+fn conclude(s: &mut [u32; 20], mem: &mut [u8], log: &mut [u64], r: &[u32; 17], t: Tried) -> Ended
+    requires { ⌜ LogOk (now mem) (now log) 0 × (70 ≤ length (now log)) ⌝ }
+    ensures { λ _. ⌜ now (s .exit) ≡ conclude (now (s .entry)) (now (mem .entry)) (now (r .entry)) t .s ⌝ }
+    ensures { λ _. ⌜ now (mem .exit) ≡ conclude (now (s .entry)) (now (mem .entry)) (now (r .entry)) t .m ⌝ }
+    ensures { λ e. ⌜ e .event ≡ conclude (now (s .entry)) (now (mem .entry)) (now (r .entry)) t .event ⌝ }
+    ensures { λ e. ⌜ Noted (now (mem .entry)) (now (log .entry)) 0 70 (now (mem .exit)) (now (log .exit)) (e .n) ⌝ }
+{
+    let p = t.p;
+    let f = p.f;
+    let fine = f.bad == 0;
+    if fine {
+        let trace = bank::tracing(s[18]);
+        bank::settle(s, r, p);
+        return after(s, mem, log, r, p, trace);
+    }
+    exception::fault(s, mem, log, 0, f.bad, t.op)
+}
+
+// One instruction.
+fn instruction(s: &mut [u32; 20], mem: &mut [u8], log: &mut [u64]) -> Ended
+    requires { ⌜ LogOk (now mem) (now log) 0 × (70 ≤ length (now log)) ⌝ }
+    ensures { λ _. ⌜ now (s .exit) ≡ instruction (now (s .entry)) (now (mem .entry)) .s ⌝ }
+    ensures { λ _. ⌜ now (mem .exit) ≡ instruction (now (s .entry)) (now (mem .entry)) .m ⌝ }
+    ensures { λ e. ⌜ e .event ≡ instruction (now (s .entry)) (now (mem .entry)) .event ⌝ }
+    ensures { λ e. ⌜ Noted (now (mem .entry)) (now (log .entry)) 0 70 (now (mem .exit)) (now (log .exit)) (e .n) ⌝ }
+{
+    let sr = s[18];
+    let pc = s[17];
+    let mut r = bank::bank(s);
+    let t = attempt(&mut r, mem, exception::fresh(pc, sr));
+    conclude(s, mem, log, &r, t)
+}
+
+// An interrupt: the mask becomes its level.
+fn interrupt(s: &mut [u32; 20], mem: &mut [u8], log: &mut [u64], level: u32, vector: u32) -> Ended
+    requires { ⌜ LogOk (now mem) (now log) 0 × (6 ≤ length (now log)) ⌝ }
+    ensures { λ _. ⌜ now (s .exit) ≡ interrupt (now (s .entry)) (now (mem .entry)) level vector .s ⌝ }
+    ensures { λ _. ⌜ now (mem .exit) ≡ interrupt (now (s .entry)) (now (mem .entry)) level vector .m ⌝ }
+    ensures { λ e. ⌜ e .event ≡ interrupt (now (s .entry)) (now (mem .entry)) level vector .event ⌝ }
+    ensures { λ e. ⌜ Noted (now (mem .entry)) (now (log .entry)) 0 6 (now (mem .exit)) (now (log .exit)) (e .n) ⌝ }
+{
+    let sr = interrupt_sr(s[18], level);
+    exception::exception(s, mem, log, 0, vector, sr)
+}
+
+fn interrupt_sr(sr: u32, level: u32) -> u32
+    ensures { λ r. ⌜ r ≡ interrupt-sr sr level ⌝ }
+{
+    8192 + level % 8 * 256 + sr % 256
+}
+
+// One whole step with its request: an interrupt that is taken, or nothing where the machine is stopped, or one instruction.
+pub fn one_step(
+    s: &mut [u32; 20],
+    mem: &mut [u8],
+    log: &mut [u64],
+    level: u32,
+    vector: u32,
+) -> Ended
+    requires { ⌜ LogOk (now mem) (now log) 0 × (70 ≤ length (now log)) ⌝ }
+    ensures { λ _. ⌜ now (s .exit) ≡ one-step (now (s .entry)) (now (mem .entry)) level vector .s ⌝ }
+    ensures { λ _. ⌜ now (mem .exit) ≡ one-step (now (s .entry)) (now (mem .entry)) level vector .m ⌝ }
+    ensures { λ e. ⌜ e .event ≡ one-step (now (s .entry)) (now (mem .entry)) level vector .event ⌝ }
+    ensures { λ e. ⌜ Noted (now (mem .entry)) (now (log .entry)) 0 70 (now (mem .exit)) (now (log .exit)) (e .n) ⌝ }
+{
+    let mask = s[18] / 256 % 8;
+    let taken = (level == 7) | (mask < level);
+    if taken {
+        return interrupt(s, mem, log, level, vector);
+    }
+    let running = s[19] == 0;
+    if running {
+        return instruction(s, mem, log);
+    }
+    Ended { n: 0, event: 0 }
+}
