@@ -1,0 +1,8 @@
+pub mod Keeps
+pub mod RefusalLaws
+pub mod StatusLaws
+pub mod PromiseLaws
+pub mod ActLaws
+pub mod FrameLaws
+pub mod RunLaws
+pub mod GoingBack

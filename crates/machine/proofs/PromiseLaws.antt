@@ -1,0 +1,28 @@
+-- PromiseLaws.antt - any two answers that a call's promise allows, with all that it leaves in what it was lent, are equal.
+-- * reset-unique, step-unique, run-unique, undo-unique.
+-- Source: [01 How much each promise says].
+use Prim.Native.Nat.{ℕ}
+use mathlib.Core.Path.{_≡_}
+use mathlib.Core.List.{List}
+use Rattle.machine.specs.declared.StepAnswer.{StepAnswer}
+use Rattle.machine.specs.declared.RunAnswer.{RunAnswer}
+use Rattle.machine.specs.declared.UndoAnswer.{UndoAnswer}
+use Rattle.machine.specs.Promises.{ResetPromise, StepPromise, RunPromise, UndoPromise}
+
+pub reset-unique : (m s₁ s₂ : List ℕ) (n₁ n₂ : ℕ) → ResetPromise m s₁ n₁ → ResetPromise m s₂ n₂ → (s₁ ≡ s₂) × (n₁ ≡ n₂)
+reset-unique m s₁ s₂ n₁ n₂ p q = (cc, cc)
+
+pub step-unique : (s m : List ℕ) (level vector : ℕ) (j : List ℕ) (mark : ℕ) (s₁ m₁ j₁ : List ℕ) (a₁ : StepAnswer) (s₂ m₂ j₂ : List ℕ) (a₂ : StepAnswer)
+    → StepPromise s m level vector j mark s₁ m₁ j₁ a₁ → StepPromise s m level vector j mark s₂ m₂ j₂ a₂
+    → (s₁ ≡ s₂) × (m₁ ≡ m₂) × (j₁ ≡ j₂) × (a₁ ≡ a₂)
+step-unique s m level vector j mark s₁ m₁ j₁ a₁ s₂ m₂ j₂ a₂ p q = (cc, cc, cc, cc)
+
+pub run-unique : (s m : List ℕ) (budget stop : ℕ) (j : List ℕ) (mark : ℕ) (s₁ m₁ j₁ : List ℕ) (a₁ : RunAnswer) (s₂ m₂ j₂ : List ℕ) (a₂ : RunAnswer)
+    → RunPromise s m budget stop j mark s₁ m₁ j₁ a₁ → RunPromise s m budget stop j mark s₂ m₂ j₂ a₂
+    → (s₁ ≡ s₂) × (m₁ ≡ m₂) × (j₁ ≡ j₂) × (a₁ ≡ a₂)
+run-unique s m budget stop j mark s₁ m₁ j₁ a₁ s₂ m₂ j₂ a₂ p q = (cc, cc, cc, cc)
+
+pub undo-unique : (s m j : List ℕ) (mark : ℕ) (s₁ m₁ : List ℕ) (a₁ : UndoAnswer) (s₂ m₂ : List ℕ) (a₂ : UndoAnswer)
+    → UndoPromise s m j mark s₁ m₁ a₁ → UndoPromise s m j mark s₂ m₂ a₂
+    → (s₁ ≡ s₂) × (m₁ ≡ m₂) × (a₁ ≡ a₂)
+undo-unique s m j mark s₁ m₁ a₁ s₂ m₂ a₂ p q = (cc, cc, cc)

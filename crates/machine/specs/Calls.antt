@@ -1,0 +1,141 @@
+-- Calls.antt - reset, step, run and undo: the complete answer of each call, and slots, memory and journal afterwards, for every input.
+-- A refusal's number is the lowest that the call can give; a refused call leaves everything as it was (a refused reset: the fixed state).
+-- Laws: proofs/.  Source: [01 Calls and what they give back], [01 The journal].
+use Prim.Native.Nat.{ℕ, zero, suc, _+_, _-_, _%_}
+use mathlib.Core.Bool.{Bool, _&&_, not}
+use mathlib.Core.List.{List, [], _∷_}
+use lib.ListN.{length}
+use lib.Dec.{ltb, leb, eqb}
+use Rattle.bits.specs.Bits.{pick}
+use Rattle.bus.specs.Bus.{view-of, read-long}
+use Rattle.bank.specs.Bank.{long, pc-of, sr-of, mode-of}
+use Rattle.exception.specs.Exceptions.{fresh}
+use Rattle.step.specs.Steps.{one-step}
+use Rattle.numbers.specs.Number.{written}
+use Rattle.record.specs.Limits.{longest-record, valid-status}
+use Rattle.record.specs.Change.{step-record}
+use Rattle.undo.specs.declared.Answer.{Answer}
+use Rattle.undo.specs.declared.Answer.the-variants.{Done, Refused}
+use Rattle.undo.specs.Undo.{undo-of}
+use Rattle.machine.specs.declared.StepAnswer.{StepAnswer}
+use Rattle.machine.specs.declared.RunAnswer.{RunAnswer}
+use Rattle.machine.specs.declared.UndoAnswer.{UndoAnswer}
+
+-- refusal 1 is given exactly when this does not hold: an even length from 1,024 to 16,777,216  [01 Calls, table]
+abbrev pub memory-fits : List ℕ → Bool
+memory-fits m = eqb (length m % 2) 0 && leb 1024 (length m) && leb (length m) 16777216
+
+-- refusal 2 is given exactly when this does not hold: SR has only the bits of $A71F, and the mode is at most 2  [01 Calls, table]
+abbrev pub state-fits : List ℕ → Bool
+state-fits s = valid-status (sr-of s) && leb (mode-of s) 2
+
+-- ---- reset
+
+-- SSP from address 0, PC from 4, SR $2700, every other slot 0  [01 Calls, Reset]
+abbrev pub reset-slots : List ℕ → List ℕ
+reset-slots m =
+    0 ∷ 0 ∷ 0 ∷ 0 ∷ 0 ∷ 0 ∷ 0 ∷ 0 ∷ 0 ∷ 0 ∷ 0 ∷ 0 ∷ 0 ∷ 0 ∷ 0 ∷ 0
+    ∷ long (read-long (view-of m) 0 17 (fresh 0 0) .v) ∷ long (read-long (view-of m) 4 17 (fresh 0 0) .v) ∷ 9984 ∷ 0 ∷ []
+
+-- 2 in slot 19 and 0 in every other  [01 Calls]
+abbrev pub refused-slots : List ℕ
+refused-slots = 0 ∷ 0 ∷ 0 ∷ 0 ∷ 0 ∷ 0 ∷ 0 ∷ 0 ∷ 0 ∷ 0 ∷ 0 ∷ 0 ∷ 0 ∷ 0 ∷ 0 ∷ 0 ∷ 0 ∷ 0 ∷ 0 ∷ 2 ∷ []
+
+abbrev pub reset-number : List ℕ → ℕ
+reset-number m = pick (memory-fits m) 0 1
+
+unfoldable pub reset-call : List ℕ → List ℕ
+reset-call m = pick (memory-fits m) (reset-slots m) refused-slots
+
+-- ---- step
+
+-- slots, memory and journal after a step, and its answer  [ours]
+pub record StepCall : Type 0 where
+  pub s : List ℕ
+  pub m : List ℕ
+  pub j : List ℕ
+  pub a : StepAnswer
+
+-- 1 to 6, or 0  [01 Calls, table]
+unfoldable pub step-number : List ℕ → List ℕ → ℕ → List ℕ → ℕ → ℕ
+step-number s m level j mark =
+    pick (not (memory-fits m)) 1
+    (pick (not (state-fits s)) 2
+    (pick (ltb 7 level) 3
+    (pick (ltb (length j) mark) 4
+    (pick (ltb (length j - mark) longest-record) 5
+    (pick (eqb (mode-of s) 2) 6 0)))))
+
+-- one step by the definition, and the record that before and after determine, at the mark  [01 One step] [01 The journal]
+unfoldable pub step-taken : List ℕ → List ℕ → ℕ → ℕ → List ℕ → ℕ → StepCall
+step-taken s m level vector j mark =
+    let t = one-step s m level vector in
+    let b = step-record s (t .s) m (t .m) in
+    record { s = t .s; m = t .m; j = written j mark b; a = record { number = 0; mark = mark + length b; event = t .event } }
+
+unfoldable pub step-call : List ℕ → List ℕ → ℕ → ℕ → List ℕ → ℕ → StepCall
+step-call s m level vector j mark =
+    let n = step-number s m level j mark in
+    pick (eqb n 0) (step-taken s m level vector j mark) (record { s = s; m = m; j = j; a = record { number = n; mark = mark; event = 0 } })
+
+-- ---- run
+
+pub record RunCall : Type 0 where
+  pub s : List ℕ
+  pub m : List ℕ
+  pub j : List ℕ
+  pub a : RunAnswer
+
+-- 1 to 4, or 0  [01 Calls, table]
+unfoldable pub run-number : List ℕ → List ℕ → ℕ → List ℕ → ℕ → ℕ
+run-number s m budget j mark =
+    pick (not (memory-fits m)) 1
+    (pick (not (state-fits s)) 2
+    (pick (ltb 1000000 budget) 3
+    (pick (ltb (length j) mark) 4 0)))
+
+-- a run ended by a reason, with n steps done  [01 Calls, Run]
+abbrev pub ended : ℕ → ℕ → List ℕ → List ℕ → List ℕ → ℕ → RunCall
+ended reason n s m j mark = record { s = s; m = m; j = j; a = record { number = 0; mark = mark; reason = reason; steps = n } }
+
+-- what is left of a run, k of its budget, with n steps done: the reasons in their order, and a step with level 0  [01 Calls, Run]
+unfoldable pub running : ℕ → ℕ → ℕ → List ℕ → List ℕ → List ℕ → ℕ → RunCall
+running zero n stop s m j mark = ended 1 n s m j mark
+running (suc k) n stop s m j mark =
+    let c = step-taken s m 0 0 j mark in
+    let rest = running k (n + 1) stop (c .s) (c .m) (c .j) (c .a .mark) in
+    pick (eqb (mode-of s) 2) (ended 2 n s m j mark)
+    (pick (eqb (mode-of s) 1) (ended 3 n s m j mark)
+    (pick (ltb (length j - mark) longest-record) (ended 4 n s m j mark)
+    (pick (eqb (pc-of s) stop) (ended 5 n s m j mark) rest)))
+
+unfoldable pub run-call : List ℕ → List ℕ → ℕ → ℕ → List ℕ → ℕ → RunCall
+run-call s m budget stop j mark =
+    let n = run-number s m budget j mark in
+    pick (eqb n 0) (running budget 0 stop s m j mark) (record { s = s; m = m; j = j; a = record { number = n; mark = mark; reason = 0; steps = 0 } })
+
+-- ---- undo
+
+pub record UndoCall : Type 0 where
+  pub s : List ℕ
+  pub m : List ℕ
+  pub a : UndoAnswer
+
+-- 1, 2, 4 or 7, or 0  [01 Calls, table]
+unfoldable pub undo-number : List ℕ → List ℕ → List ℕ → ℕ → ℕ
+undo-number s m j mark =
+    pick (not (memory-fits m)) 1
+    (pick (not (state-fits s)) 2
+    (pick (ltb (length j) mark) 4
+    (pick (eqb mark 0) 7 0)))
+
+-- refusal 8 where the last record is not well formed  [01 Calls, table] [01 The journal]
+abbrev pub undo-answer : ℕ → Answer → UndoAnswer
+undo-answer mark (Done start) = record { number = 0; mark = start }
+undo-answer mark Refused = record { number = 8; mark = mark }
+
+unfoldable pub undo-call : List ℕ → List ℕ → List ℕ → ℕ → UndoCall
+undo-call s m j mark =
+    let n = undo-number s m j mark in
+    let u = undo-of s m j mark in
+    pick (eqb n 0) (record { s = u .slots; m = u .memory; a = undo-answer mark (u .answer) }) (record { s = s; m = m; a = record { number = n; mark = mark } })

@@ -1,0 +1,126 @@
+-- History.antt - a mix of calls, each given what the last one returned; the steps that stand after it; those steps taken alone.
+-- Not here: what a call does (Calls.antt), what a step does (one-step of the crate step).
+-- Laws: proofs/GoingBack.antt.  Source: [00 demand 3].
+use Prim.Native.Nat.{ℕ, _+_, _≤_}
+use mathlib.Core.List.{List, [], _∷_}
+use lib.ListN.{length}
+use lib.Dec.{eqb}
+use Rattle.bits.specs.Bits.{pick, iter}
+use Rattle.step.specs.Steps.{one-step}
+use Rattle.record.specs.Change.{step-record}
+use Rattle.machine.specs.Calls.{StepCall, RunCall, UndoCall, step-call, run-call, undo-call}
+
+-- what the calls are lent, and the mark  [01 Calls]
+pub record Machine : Type 0 where
+  pub slots : List ℕ
+  pub memory : List ℕ
+  pub journal : List ℕ
+  pub mark : ℕ
+
+-- an interrupt level and a vector number  [01 Calls]
+pub record Request : Type 0 where
+  pub level : ℕ
+  pub vector : ℕ
+
+-- a step with a level and a vector; a run with a budget and a stop address; an undo  [00 demand 3]
+pub data Call : Type 0 where
+  step-of : ℕ → ℕ → Call
+  run-of : ℕ → ℕ → Call
+  undo-once : Call
+
+-- ---- what each call gives back on a machine
+
+abbrev pub stepping : ℕ → ℕ → Machine → StepCall
+stepping level vector x = step-call (x .slots) (x .memory) level vector (x .journal) (x .mark)
+
+abbrev pub running-on : ℕ → ℕ → Machine → RunCall
+running-on budget stop x = run-call (x .slots) (x .memory) budget stop (x .journal) (x .mark)
+
+abbrev pub undoing : Machine → UndoCall
+undoing x = undo-call (x .slots) (x .memory) (x .journal) (x .mark)
+
+-- the machine after a call: what the next call is given  [00 demand 3]
+unfoldable pub act : Call → Machine → Machine
+act (step-of level vector) x =
+    let c = stepping level vector x in
+    record { slots = c .s; memory = c .m; journal = c .j; mark = c .a .mark }
+act (run-of budget stop) x =
+    let c = running-on budget stop x in
+    record { slots = c .s; memory = c .m; journal = c .j; mark = c .a .mark }
+act undo-once x =
+    let c = undoing x in
+    record { slots = c .s; memory = c .m; journal = x .journal; mark = c .a .mark }
+
+-- after all of the calls, each given what the last one returned  [00 demand 3]
+abbrev pub after : List Call → Machine → Machine
+after [] x = x
+after (c ∷ cs) x = after cs (act c x)
+
+-- ---- what was accepted, and what was undone
+
+-- the steps that a call accepts: a run counts as its steps; a refused call counts for nothing  [00 demand 3]
+unfoldable pub accepted : Call → Machine → ℕ
+accepted (step-of level vector) x = pick (eqb (stepping level vector x .a .number) 0) 1 0
+accepted (run-of budget stop) x = running-on budget stop x .a .steps
+accepted undo-once x = 0
+
+-- the steps that a call undoes  [00 demand 3]
+unfoldable pub undone : Call → Machine → ℕ
+undone (step-of level vector) x = 0
+undone (run-of budget stop) x = 0
+undone undo-once x = pick (eqb (undoing x .a .number) 0) 1 0
+
+-- at no point more steps undone than accepted; a and u are those before  [00 demand 3]
+abbrev pub NeverAhead : List Call → Machine → ℕ → ℕ → Type 0
+NeverAhead [] x a u = u ≤ a
+NeverAhead (c ∷ cs) x a u = (u ≤ a) × NeverAhead cs (act c x) (a + accepted c x) (u + undone c x)
+
+-- ---- the steps not undone, with their requests, the last first
+
+-- all but the last step  [00 demand 3]
+abbrev pub all-but-last : List Request → List Request
+all-but-last [] = []
+all-but-last (r ∷ rs) = rs
+
+-- one more step with level 0, as a run takes it  [01 Calls, Run]
+abbrev pub plain-step : List Request → List Request
+plain-step rs = record { level = 0; vector = 0 } ∷ rs
+
+-- the steps that stand after one call, where rs stood before it  [00 demand 3]
+unfoldable pub left-by : Call → Machine → List Request → List Request
+left-by (step-of level vector) x rs = pick (eqb (stepping level vector x .a .number) 0) (record { level = level; vector = vector } ∷ rs) rs
+left-by (run-of budget stop) x rs = iter plain-step (running-on budget stop x .a .steps) rs
+left-by undo-once x rs = pick (eqb (undoing x .a .number) 0) (all-but-last rs) rs
+
+-- the steps that stand after all of the calls, where rs stood before them  [00 demand 3]
+abbrev pub standing : List Call → Machine → List Request → List Request
+standing [] x rs = rs
+standing (c ∷ cs) x rs = standing cs (act c x) (left-by c x rs)
+
+-- ---- steps taken alone: by one-step and the length of its record only
+
+-- state, memory and mark  [00 demand 3]
+pub record Seen : Type 0 where
+  pub slots : List ℕ
+  pub memory : List ℕ
+  pub mark : ℕ
+
+abbrev pub seen : Machine → Seen
+seen x = record { slots = x .slots; memory = x .memory; mark = x .mark }
+
+-- the record of one step  [01 The journal]
+unfoldable pub record-after : Request → Seen → List ℕ
+record-after r a =
+    let t = one-step (a .slots) (a .memory) (r .level) (r .vector) in
+    step-record (a .slots) (t .s) (a .memory) (t .m)
+
+-- one step by the definition of demand 2; the mark grows by its record  [00 demand 3]
+unfoldable pub one-more : Request → Seen → Seen
+one-more r a =
+    let t = one-step (a .slots) (a .memory) (r .level) (r .vector) in
+    record { slots = t .s; memory = t .m; mark = a .mark + length (record-after r a) }
+
+-- the steps of a list, the last first, taken alone from the start  [00 demand 3]
+abbrev pub taken-alone : List Request → Seen → Seen
+taken-alone [] a = a
+taken-alone (r ∷ rs) a = one-more r (taken-alone rs a)

@@ -1,0 +1,88 @@
+-- Refusals.antt - the tables of [01 Calls]: for each call the numbers that it can give, in order, and when each applies; a run's reasons.
+-- Not here: what a call gives back (Calls.antt).
+-- Laws: proofs/RefusalLaws.antt, proofs/RunLaws.antt.  Source: [01 Calls and what they give back].
+use Prim.Native.Nat.{ℕ, _-_, _%_, _<_}
+use mathlib.Core.Path.{_≡_}
+use mathlib.Core.Bool.{false}
+use mathlib.Core.List.{List, [], _∷_}
+use lib.ListN.{length}
+use Rattle.bank.specs.Bank.{pc-of, sr-of, mode-of}
+use Rattle.record.specs.Limits.{longest-record, valid-status}
+use Rattle.undo.specs.Undo.{none, well-formed}
+
+-- a line of a table: a number, and when it applies  [01 Calls, table]
+pub record Line : Type 1 where
+  pub number : ℕ
+  pub applies : Type 0
+
+-- n is the number of the first line that applies, or 0 where none does  [01 Calls, table]
+pub data Given : List Line → ℕ → Type 1 where
+  zero-at-end : Given [] 0
+  this : {l : Line} {ls : List Line} {n : ℕ} → l .applies → n ≡ l .number → Given (l ∷ ls) n
+  later : {l : Line} {ls : List Line} {n : ℕ} → (l .applies → ⊥) → Given ls n → Given (l ∷ ls) n
+
+-- no line applies  [01 Calls, table]
+abbrev pub NoneApplies : List Line → Type 0
+NoneApplies [] = Unit {0}
+NoneApplies (l ∷ ls) = (l .applies → ⊥) × NoneApplies ls
+
+-- memory length is odd, below 1,024 or above 16,777,216  [01 Calls, table]
+pub data BadMemory (m : List ℕ) : Type 0 where
+  odd : length m % 2 ≡ 1 → BadMemory m
+  short : length m < 1024 → BadMemory m
+  long : 16777216 < length m → BadMemory m
+
+-- SR has a bit outside $A71F, or mode is above 2  [01 Calls, table]
+pub data BadState (s : List ℕ) : Type 0 where
+  stray-bit : valid-status (sr-of s) ≡ false → BadState s
+  no-mode : 2 < mode-of s → BadState s
+
+-- the lines that several calls have  [01 Calls, table]
+abbrev pub memory-line : List ℕ → Line
+memory-line m = record { number = 1; applies = BadMemory m }
+
+abbrev pub state-line : List ℕ → Line
+state-line s = record { number = 2; applies = BadState s }
+
+abbrev pub mark-line : List ℕ → ℕ → Line
+mark-line j mark = record { number = 4; applies = length j < mark }
+
+-- reset gives 1  [01 Calls, table]
+abbrev pub reset-table : List ℕ → List Line
+reset-table m = memory-line m ∷ []
+
+-- step gives 1 to 6  [01 Calls, table]
+abbrev pub step-table : List ℕ → List ℕ → ℕ → List ℕ → ℕ → List Line
+step-table s m level j mark =
+    memory-line m
+    ∷ state-line s
+    ∷ record { number = 3; applies = 7 < level }
+    ∷ mark-line j mark
+    ∷ record { number = 5; applies = length j - mark < longest-record }
+    ∷ record { number = 6; applies = mode-of s ≡ 2 }
+    ∷ []
+
+-- run gives 1 to 4  [01 Calls, table]
+abbrev pub run-table : List ℕ → List ℕ → ℕ → List ℕ → ℕ → List Line
+run-table s m budget j mark =
+    memory-line m ∷ state-line s ∷ record { number = 3; applies = 1000000 < budget } ∷ mark-line j mark ∷ []
+
+-- undo gives 1, 2, 4, 7 and 8  [01 Calls, table]
+abbrev pub undo-table : List ℕ → List ℕ → List ℕ → ℕ → List Line
+undo-table s m j mark =
+    memory-line m
+    ∷ state-line s
+    ∷ mark-line j mark
+    ∷ record { number = 7; applies = mark ≡ 0 }
+    ∷ record { number = 8; applies = well-formed s m j mark ≡ none }
+    ∷ []
+
+-- the reasons that end a run, with n steps done, in the order in which it asks  [01 Calls, Run]
+abbrev pub reasons : ℕ → ℕ → ℕ → List ℕ → List ℕ → ℕ → List Line
+reasons budget stop n s j mark =
+    record { number = 1; applies = n ≡ budget }
+    ∷ record { number = 2; applies = mode-of s ≡ 2 }
+    ∷ record { number = 3; applies = mode-of s ≡ 1 }
+    ∷ record { number = 4; applies = length j - mark < longest-record }
+    ∷ record { number = 5; applies = pc-of s ≡ stop }
+    ∷ []
