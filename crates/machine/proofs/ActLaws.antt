@@ -4,7 +4,7 @@
 -- * act-step-refused, act-run-refused, act-undo-refused: a refused call leaves the machine as it was.
 -- * record-some: a record is never empty.
 -- Source: [01 Calls and what they give back], [01 The journal].
-use Prim.Native.Nat.{ℕ, zero, suc, _+_, _/_, _%_, _^_, _≤_, _<_}
+use Prim.Native.Nat.{ℕ, zero, suc, _+_, _/_, _%_, _≤_, _<_}
 use mathlib.Core.Path.{_≡_, refl, ap}
 use mathlib.Core.Bool.{Bool, true, false}
 use mathlib.Core.List.{List, [], _∷_, _++_}
@@ -12,13 +12,12 @@ use native.Mathlib.Omega.{arith}
 use lib.ListN.{length, length-append}
 use lib.Dec.{ltb}
 use Rattle.numbers.specs.Number.{groups, number-bytes, written}
-use Rattle.record.specs.Limits.{valid-value, longest-record}
+use Rattle.record.specs.Limits.{longest-record}
 use Rattle.record.specs.Change.{Change, changes-bytes, record-of, diffs}
-use Rattle.record.proofs.DiffLaws.{each-implies}
 use Rattle.step.specs.Steps.{one-step}
 use Rattle.machine.specs.Calls.{StepCall, RunCall, UndoCall, step-number, step-taken}
 use Rattle.machine.specs.History.{Machine, Request, step-of, run-of, undo-once, stepping, running-on, undoing, act, Seen, seen, record-after, one-more}
-use Rattle.machine.proofs.Keeps.{Lent, Valid, Keeps, valid-when-accepted, valid-after-step, record-room}
+use Rattle.machine.proofs.ValidLaws.{Lent, Valid, lent-when-valid, valid-when-accepted, valid-after-step, record-room}
 use Rattle.machine.proofs.RefusalLaws.{step-call-number, step-accepted, step-refused, run-refused, undo-refused, step-inv}
 
 -- a machine by what is seen of it and its journal
@@ -56,32 +55,23 @@ step-valid level vector x l e =
     let i = step-inv (x .slots) (x .memory) level (x .journal) (x .mark) (step-number-zero level vector x e) in
     valid-when-accepted (x .slots) (x .memory) l (i .0) (i .1)
 
--- a valid state is a lent one
-pub lent-when-valid : (s m : List ℕ) → Valid s m → Lent s m
-lent-when-valid s m v =
-    record {
-      slots = v .slots;
-      words = each-implies (λ k v. (valid-value k v ≡ true) × (v < 2 ^ 32)) (λ k v. v < 2 ^ 32) (λ k v h. h .1) 0 s (v .values);
-      bytes = v .bytes;
-    }
-
-module _ (keeps : Keeps) (r : Request) (a : Seen) (v : Valid (a .slots) (a .memory)) where
+module _ (r : Request) (a : Seen) (v : Valid (a .slots) (a .memory)) where
   pub valid-after : Valid (one-more r a .slots) (one-more r a .memory)
   unfolding one-more
-  valid-after = valid-after-step keeps (a .slots) (a .memory) (r .level) (r .vector) v
+  valid-after = valid-after-step (a .slots) (a .memory) (r .level) (r .vector) v
 
   pub lent-after : Lent (one-more r a .slots) (one-more r a .memory)
   lent-after = lent-when-valid (one-more r a .slots) (one-more r a .memory) valid-after
 
   pub record-after-length : length (record-after r a) ≤ longest-record
   unfolding record-after
-  record-after-length = record-room keeps (a .slots) (a .memory) (r .level) (r .vector) v
+  record-after-length = record-room (a .slots) (a .memory) (r .level) (r .vector) v
 
-pub step-room : Keeps → (r : Request) (x : Machine) → Lent (x .slots) (x .memory) → stepping (r .level) (r .vector) x .a .number ≡ 0
+pub step-room : (r : Request) (x : Machine) → Lent (x .slots) (x .memory) → stepping (r .level) (r .vector) x .a .number ≡ 0
     → x .mark + length (record-after r (seen x)) ≤ length (x .journal)
-step-room keeps r x l e =
+step-room r x l e =
     let i = step-inv (x .slots) (x .memory) (r .level) (x .journal) (x .mark) (step-number-zero (r .level) (r .vector) x e) in
-    omega (arith, i .3, i .4, record-after-length keeps r (seen x) (step-valid (r .level) (r .vector) x l e))
+    omega (arith, i .3, i .4, record-after-length r (seen x) (step-valid (r .level) (r .vector) x l e))
 
 -- ---- a record is never empty
 groups-some : (k v : ℕ) → 0 < length (groups k v)

@@ -18,11 +18,12 @@ use Rattle.numbers.proofs.WrittenLaws.{length-written}
 use Rattle.record.specs.Limits.{byte-limit}
 use Rattle.record.specs.Change.{Change, diffs, restore, step-record}
 use Rattle.record.proofs.ChangeLaws.{changed-cases}
+use Rattle.step.proofs.KeepLaws.{Kept}
 use Rattle.undo.specs.Undo.{found, well-formed}
 use Rattle.undo.proofs.UndoLaws.{undo-when-found}
 use Rattle.machine.specs.Calls.{undo-number, undo-call}
 use Rattle.machine.specs.History.{Machine, Request, step-of, stepping, act, seen, record-after, one-more}
-use Rattle.machine.proofs.Keeps.{Lent, Kept, Keeps}
+use Rattle.machine.proofs.ValidLaws.{Lent, kept-by}
 use Rattle.machine.proofs.ActLaws.{act-step, step-room, step-valid}
 
 -- ---- bytes written into a list
@@ -96,7 +97,7 @@ restored-outside i [] m h = refl
 restored-outside i (c ∷ cs) m h = restored-outside i cs (set m (c .place) (c .old)) (h .1) ∙ getD-set-other m (c .place) i (c .old) 0 (h .0)
 
 -- ---- an accepted step
-module _ (keeps : Keeps) (r : Request) (x : Machine) (lent : Lent (x .slots) (x .memory)) (ok : stepping (r .level) (r .vector) x .a .number ≡ 0) where
+module _ (r : Request) (x : Machine) (lent : Lent (x .slots) (x .memory)) (ok : stepping (r .level) (r .vector) x .a .number ≡ 0) where
   abbrev y : Machine
   y = act (step-of (r .level) (r .vector)) x
 
@@ -109,7 +110,7 @@ module _ (keeps : Keeps) (r : Request) (x : Machine) (lent : Lent (x .slots) (x 
   recorded-is = rw (act-step r x ok)
 
   inside : x .mark ≤ length (x .journal)
-  inside = omega (arith, step-room keeps r x lent ok)
+  inside = omega (arith, step-room r x lent ok)
 
   pub step-frame : Framed x y × (y .mark ≡ x .mark + length recorded) × (take (length recorded) (drop (x .mark) (y .journal)) ≡ recorded)
   unfolding one-more
@@ -119,8 +120,8 @@ module _ (keeps : Keeps) (r : Request) (x : Machine) (lent : Lent (x .slots) (x 
       rw (recorded-is, act-step r x ok) (
         record {
           grown = omega arith;
-          inside = step-room keeps r x lent ok;
-          same-length = length-written j (x .mark) b (step-room keeps r x lent ok);
+          inside = step-room r x lent ok;
+          same-length = length-written j (x .mark) b (step-room r x lent ok);
           below = written-below j (x .mark) b inside (x .mark) (omega arith);
           beyond = written-beyond j (x .mark) b inside;
         },
@@ -130,7 +131,7 @@ module _ (keeps : Keeps) (r : Request) (x : Machine) (lent : Lent (x .slots) (x 
 
   kept-now : Kept (x .slots) (x .memory) (y .slots) (y .memory)
   unfolding one-more
-  kept-now = rw (act-step r x ok) (keeps .kept (x .slots) (x .memory) (r .level) (r .vector) (step-valid (r .level) (r .vector) x lent ok))
+  kept-now = rw (act-step r x ok) (kept-by (x .slots) (x .memory) (r .level) (r .vector) (step-valid (r .level) (r .vector) x lent ok))
 
   pub step-memory : (length (y .memory) ≡ length (x .memory))
       × (length (diffs 0 (x .memory) (y .memory)) ≤ byte-limit)

@@ -27,7 +27,7 @@ use Rattle.undo.specs.declared.Answer.the-variants.{Done}
 use Rattle.undo.proofs.UndoLaws.{undo-of-record, undo-by-back, back-below}
 use Rattle.machine.specs.Calls.{RunCall, UndoCall}
 use Rattle.machine.specs.History.{Machine, Request, Call, step-of, run-of, undo-once, stepping, running-on, undoing, act, after, accepted, undone, NeverAhead, plain-step, left-by, standing, Seen, seen, record-after, one-more, taken-alone}
-use Rattle.machine.proofs.Keeps.{Lent, Valid, Keeps, state-fits-when, small-enough}
+use Rattle.machine.proofs.ValidLaws.{Lent, Valid, kept-by, state-fits-when, small-enough}
 use Rattle.machine.proofs.RefusalLaws.{run-refused, undo-accepted, undo-number-when}
 use Rattle.machine.proofs.ActLaws.{machine-at, act-step, act-step-refused, act-run-refused, act-undo-refused, step-valid, step-room, valid-after, lent-after, record-after-some}
 use Rattle.machine.proofs.RunLaws.{one, plain, run-as-steps}
@@ -37,14 +37,14 @@ unfolding one-more
 mark-after r a = refl
 
 -- ---- the undo of one step whose record ends the journal
-module _ (keeps : Keeps) (r : Request) (a : Seen) (v : Valid (a .slots) (a .memory)) (j : List ℕ)
+module _ (r : Request) (a : Seen) (v : Valid (a .slots) (a .memory)) (j : List ℕ)
     (room : one-more r a .mark ≤ length j) (last : back j (one-more r a .mark) ≡ reverse (record-after r a) ++ back j (a .mark)) where
   undone-to : undo-of (one-more r a .slots) (one-more r a .memory) j (one-more r a .mark) ≡ record { slots = a .slots; memory = a .memory; answer = Done (a .mark) }
   unfolding one-more record-after
   undone-to =
       let t = one-step (a .slots) (a .memory) (r .level) (r .vector) in
       let b = record-after r a in
-      let k = keeps .kept (a .slots) (a .memory) (r .level) (r .vector) v in
+      let k = kept-by (a .slots) (a .memory) (r .level) (r .vector) v in
       let small = small-enough (a .slots) (a .memory) v in
       undo-by-back (t .s) (t .m) j (written j (a .mark) b) (a .mark + length b) room (rw (length-written j (a .mark) b room) room) (last ∙ sym (back-written j (a .mark) b room))
       ∙ undo-of-record (a .slots) (t .s) (a .memory) (t .m) j (a .mark) (v .slots) (sym (k .slots)) (sym (k .memory)) (omega (arith, k .memory, small)) (k .few) (v .values) (v .bytes) room
@@ -52,14 +52,14 @@ module _ (keeps : Keeps) (r : Request) (a : Seen) (v : Valid (a .slots) (a .memo
   -- it is accepted
   undoing-to : undoing (machine-at (one-more r a) j) ≡ record { s = a .slots; m = a .memory; a = record { number = 0; mark = a .mark } }
   undoing-to =
-      let w = valid-after keeps r a v in
+      let w = valid-after r a v in
       let some : one-more r a .mark ≡ 0 → ⊥ = λ e. omega (arith, mark-after r a, record-after-some r a) in
       undo-accepted (one-more r a .slots) (one-more r a .memory) j (one-more r a .mark) (a .mark) (a .slots) (a .memory)
       (undo-number-when (one-more r a .slots) (one-more r a .memory) j (one-more r a .mark) (w .fits) (state-fits-when (one-more r a .slots) (one-more r a .memory) w) room some)
       undone-to
 
 -- ---- a history from one start
-module _ (keeps : Keeps) (x₀ : Machine) (lent : Lent (x₀ .slots) (x₀ .memory)) where
+module _ (x₀ : Machine) (lent : Lent (x₀ .slots) (x₀ .memory)) where
   abbrev alone : List Request → Seen
   alone rs = taken-alone rs (seen x₀)
 
@@ -80,7 +80,7 @@ module _ (keeps : Keeps) (x₀ : Machine) (lent : Lent (x₀ .slots) (x₀ .memo
 
   lent-alone : (j : List ℕ) (rs : List Request) → Holds j rs → Lent (alone rs .slots) (alone rs .memory)
   lent-alone j [] h = lent
-  lent-alone j (r ∷ rs) h = lent-after keeps r (alone rs) (h .0)
+  lent-alone j (r ∷ rs) h = lent-after r (alone rs) (h .0)
 
   -- what is written at the mark disturbs no record below
   holds-below : (j i : List ℕ) (rs : List Request) → length i ≡ length j → ((e : ℕ) → e ≤ alone rs .mark → back i e ≡ back j e) → Holds j rs → Holds i rs
@@ -104,7 +104,7 @@ module _ (keeps : Keeps) (x₀ : Machine) (lent : Lent (x₀ .slots) (x₀ .memo
         let b = record-after r a in
         let w = written j (a .mark) b in
         let l = lent-alone j rs h in
-        let room : a .mark + length b ≤ length j = step-room keeps r here l ok in
+        let room : a .mark + length b ≤ length j = step-room r here l ok in
         let same-length = length-written j (a .mark) b room in
         let next = mark-after r a in
         record {
@@ -139,7 +139,7 @@ module _ (keeps : Keeps) (x₀ : Machine) (lent : Lent (x₀ .slots) (x₀ .memo
 
   run-at : (budget stop : ℕ) (x : Machine) (rs : List Request) → At x rs → running-on budget stop x .a .number ≡ 0 → At (act (run-of budget stop) x) (iter plain-step (running-on budget stop x .a .steps) rs)
   run-at budget stop x rs a e =
-      let s = run-as-steps keeps budget stop x (lent-at x rs a) e in
+      let s = run-as-steps budget stop x (lent-at x rs a) e in
       at-subst (iter one (running-on budget stop x .a .steps) x) (act (run-of budget stop) x) (iter plain-step (running-on budget stop x .a .steps) rs)
       (s .same)
       (steps-at (running-on budget stop x .a .steps) x rs a (s .accepted))
@@ -148,7 +148,7 @@ module _ (keeps : Keeps) (x₀ : Machine) (lent : Lent (x₀ .slots) (x₀ .memo
   undoing-at : (x : Machine) (r : Request) (rs : List Request) → At x (r ∷ rs) → undoing x ≡ record { s = alone rs .slots; m = alone rs .memory; a = record { number = 0; mark = alone rs .mark } }
   undoing-at x r rs a =
       let h = a .holds in
-      ap undoing (a .is) ∙ undoing-to keeps r (alone rs) (h .0) (a .journal) (h .1) (h .2)
+      ap undoing (a .is) ∙ undoing-to r (alone rs) (h .0) (a .journal) (h .1) (h .2)
 
   undo-at : (x : Machine) (r : Request) (rs : List Request) → At x (r ∷ rs) → At (act undo-once x) rs
   unfolding act
@@ -205,13 +205,13 @@ module _ (keeps : Keeps) (x₀ : Machine) (lent : Lent (x₀ .slots) (x₀ .memo
   at-end cs h = history-at cs x₀ [] 0 0 (record { journal = x₀ .journal; is = refl; holds = tt }) (omega arith) h
 
 -- ---- demand 3
-pub going-back : Keeps → (x : Machine) → Lent (x .slots) (x .memory) → (cs : List Call) → NeverAhead cs x 0 0 → seen (after cs x) ≡ taken-alone (standing cs x []) (seen x)
-going-back keeps x lent cs h = ap seen (at-end keeps x lent cs h .is)
+pub going-back : (x : Machine) → Lent (x .slots) (x .memory) → (cs : List Call) → NeverAhead cs x 0 0 → seen (after cs x) ≡ taken-alone (standing cs x []) (seen x)
+going-back x lent cs h = ap seen (at-end x lent cs h .is)
 
 -- where a step stands, an undo is accepted, and state, memory and mark are those of the steps before it
-pub undo-when-standing : Keeps → (x : Machine) → Lent (x .slots) (x .memory) → (cs : List Call) → NeverAhead cs x 0 0
+pub undo-when-standing : (x : Machine) → Lent (x .slots) (x .memory) → (cs : List Call) → NeverAhead cs x 0 0
     → (r : Request) (rs : List Request) → standing cs x [] ≡ r ∷ rs
     → (undoing (after cs x) .a .number ≡ 0) × (seen (act undo-once (after cs x)) ≡ taken-alone rs (seen x))
-undo-when-standing keeps x lent cs h r rs e =
-    let a : At keeps x lent (after cs x) (r ∷ rs) = rw e at (at-end keeps x lent cs h) in
-    (ap (λ (c : UndoCall). c .a .number) (undoing-at keeps x lent (after cs x) r rs a), ap seen (undo-at keeps x lent (after cs x) r rs a .is))
+undo-when-standing x lent cs h r rs e =
+    let a : At x lent (after cs x) (r ∷ rs) = rw e at (at-end x lent cs h) in
+    (ap (λ (c : UndoCall). c .a .number) (undoing-at x lent (after cs x) r rs a), ap seen (undo-at x lent (after cs x) r rs a .is))

@@ -1,4 +1,4 @@
-pub mod Keeps
+pub mod ValidLaws
 pub mod RefusalLaws
 pub mod StatusLaws
 pub mod PromiseLaws

@@ -24,7 +24,7 @@ use Rattle.undo.specs.Undo.{Outcome, none, well-formed, undo-of}
 use Rattle.undo.proofs.UndoLaws.{undo-when-none, none-when-refused}
 use Rattle.machine.specs.Calls.{memory-fits, state-fits, reset-number, reset-call, refused-slots, step-number, step-taken, step-call, run-number, running, run-call, undo-number, undo-answer, undo-call}
 use Rattle.machine.specs.Refusals.{Line, Given, zero-at-end, this, later, NoneApplies, BadMemory, odd, short, long, BadState, stray-bit, no-mode, memory-line, state-line, reset-table, step-table, run-table, undo-table}
-use Rattle.machine.proofs.Keeps.{fits-inv, state-inv}
+use Rattle.machine.proofs.ValidLaws.{fits-inv, state-inv}
 
 -- ---- a table gives one number
 pub given-unique : (t : List Line) (n k : ℕ) → Given t n → Given t k → n ≡ k
@@ -199,18 +199,16 @@ module _ (s m : List ℕ) (level : ℕ) (j : List ℕ) (mark : ℕ) where
 running-number : (k n stop : ℕ) (s m j : List ℕ) (mark : ℕ) → running k n stop s m j mark .a .number ≡ 0
 unfolding running
 running-number zero n stop s m j mark = refl
-running-number (suc k) n stop s m j mark =
-    let c = step-taken s m 0 0 j mark in
-    go (eqb (mode-of s) 2) refl (eqb (mode-of s) 1) refl (ltb (length j - mark) longest-record) refl (eqb (pc-of s) stop) refl (running-number k (n + 1) stop (c .s) (c .m) (c .j) (c .a .mark))
+running-number (suc k) n stop s m j mark = go (eqb (mode-of s) 2) refl (eqb (mode-of s) 1) refl (ltb (length j - mark) longest-record) refl (eqb (pc-of s) stop) refl (running-number k (n + 1) stop)
   where
     go : (a : Bool) → eqb (mode-of s) 2 ≡ a → (b : Bool) → eqb (mode-of s) 1 ≡ b → (c : Bool) → ltb (length j - mark) longest-record ≡ c → (d : Bool) → eqb (pc-of s) stop ≡ d
-        → running k (n + 1) stop (step-taken s m 0 0 j mark .s) (step-taken s m 0 0 j mark .m) (step-taken s m 0 0 j mark .j) (step-taken s m 0 0 j mark .a .mark) .a .number ≡ 0
+        → ((s m j : List ℕ) (mark : ℕ) → running k (n + 1) stop s m j mark .a .number ≡ 0)
         → running (suc k) n stop s m j mark .a .number ≡ 0
     go true e b f c g d h r = rw e
     go false e true f c g d h r = rw (e, f)
     go false e false f true g d h r = rw (e, f, g)
     go false e false f false g true h r = rw (e, f, g, h)
-    go false e false f false g false h r = rw (e, f, g, h) r
+    go false e false f false g false h r = rw (e, f, g, h) (r _ _ _ _)
 
 module _ (s m : List ℕ) (budget : ℕ) (j : List ℕ) (mark : ℕ) where
   run-given : Given (run-table s m budget j mark) (run-number s m budget j mark)

@@ -20,9 +20,9 @@ use Rattle.record.specs.Change.{diffs}
 use Rattle.machine.specs.Calls.{memory-fits, state-fits, StepCall, RunCall, step-taken, ended, running}
 use Rattle.machine.specs.Refusals.{Line, Given, this, later, NoneApplies, reasons}
 use Rattle.machine.specs.History.{Machine, Request, step-of, run-of, stepping, running-on, act, seen}
-use Rattle.machine.proofs.Keeps.{Lent, Valid, Keeps, valid-when-accepted, state-fits-when}
+use Rattle.machine.proofs.ValidLaws.{Lent, Valid, lent-when-valid, valid-when-accepted, state-fits-when}
 use Rattle.machine.proofs.RefusalLaws.{step-call-number, step-accepted, step-number-when, run-inv, run-call-number, run-accepted}
-use Rattle.machine.proofs.ActLaws.{act-step, step-valid, valid-after, lent-after, lent-when-valid}
+use Rattle.machine.proofs.ActLaws.{act-step, step-valid, valid-after, lent-after}
 use Rattle.machine.proofs.FrameLaws.{Framed, framed-refl, framed-trans, NotAmong, step-frame, step-memory}
 
 -- one step call with level 0
@@ -50,7 +50,7 @@ record Ran (budget stop n : ℕ) (x : Machine) (c : RunCall) : Type 1 where
   reason : Given (reasons-at budget stop (n + done) (iter one done x)) (c .a .reason)
   given : c .a .reason ≡ 0 → ⊥
 
-module _ (keeps : Keeps) (budget stop : ℕ) where
+module _ (budget stop : ℕ) where
   -- what is left of a run at a machine, k of its budget
   abbrev left : ℕ → ℕ → Machine → RunCall
   left k n x = running k n stop (x .slots) (x .memory) (x .journal) (x .mark)
@@ -105,11 +105,11 @@ module _ (keeps : Keeps) (budget stop : ℕ) where
 
     module _ (ok : stepping 0 0 x .a .number ≡ 0) where
       one-valid : Valid (one x .slots) (one x .memory)
-      one-valid = rw (act-step plain x ok) (valid-after keeps plain (seen x) v)
+      one-valid = rw (act-step plain x ok) (valid-after plain (seen x) v)
 
       one-inside : one x .mark ≤ length (one x .journal)
       one-inside =
-          let f = step-frame keeps plain x (lent-when-valid (x .slots) (x .memory) v) ok .0 in
+          let f = step-frame plain x (lent-when-valid (x .slots) (x .memory) v) ok .0 in
           omega (arith, f .inside, f .same-length)
 
     ran-on : (k n : ℕ) → n + suc k ≡ budget
@@ -184,43 +184,43 @@ run-accepted-inv : (budget stop : ℕ) (x : Machine) → running-on budget stop 
 run-accepted-inv budget stop x e =
     run-inv (x .slots) (x .memory) budget (x .journal) (x .mark) (sym (run-call-number (x .slots) (x .memory) budget (x .journal) (x .mark) stop) ∙ e)
 
-pub run-as-steps : Keeps → (budget stop : ℕ) (x : Machine) → Lent (x .slots) (x .memory) → running-on budget stop x .a .number ≡ 0 → AsSteps budget stop x (running-on budget stop x .a .steps)
-run-as-steps keeps budget stop x lent e =
+pub run-as-steps : (budget stop : ℕ) (x : Machine) → Lent (x .slots) (x .memory) → running-on budget stop x .a .number ≡ 0 → AsSteps budget stop x (running-on budget stop x .a .steps)
+run-as-steps budget stop x lent e =
     let inv = run-accepted-inv budget stop x e in
     as-steps budget stop x (running budget 0 stop (x .slots) (x .memory) (x .journal) (x .mark)) (run-accepted (x .slots) (x .memory) budget (x .journal) (x .mark) stop e)
-    (ran keeps budget stop budget 0 x (omega arith) (valid-when-accepted (x .slots) (x .memory) lent (inv .0) (inv .1)) (inv .3))
+    (ran budget stop budget 0 x (omega arith) (valid-when-accepted (x .slots) (x .memory) lent (inv .0) (inv .1)) (inv .3))
 
 -- ---- the journal that a run leaves
-steps-lent : Keeps → (x : Machine) → Lent (x .slots) (x .memory) → stepping 0 0 x .a .number ≡ 0 → Lent (one x .slots) (one x .memory)
-steps-lent keeps x lent ok = rw (act-step plain x ok) (lent-after keeps plain (seen x) (step-valid 0 0 x lent ok))
+steps-lent : (x : Machine) → Lent (x .slots) (x .memory) → stepping 0 0 x .a .number ≡ 0 → Lent (one x .slots) (one x .memory)
+steps-lent x lent ok = rw (act-step plain x ok) (lent-after plain (seen x) (step-valid 0 0 x lent ok))
 
-pub steps-frame : Keeps → (n : ℕ) (x : Machine) → Lent (x .slots) (x .memory) → x .mark ≤ length (x .journal) → ((i : ℕ) → i < n → stepping 0 0 (iter one i x) .a .number ≡ 0) → Framed x (iter one n x)
+pub steps-frame : (n : ℕ) (x : Machine) → Lent (x .slots) (x .memory) → x .mark ≤ length (x .journal) → ((i : ℕ) → i < n → stepping 0 0 (iter one i x) .a .number ≡ 0) → Framed x (iter one n x)
 unfolding iter
-steps-frame keeps zero x lent h ok = framed-refl x h
-steps-frame keeps (suc n) x lent h ok =
+steps-frame zero x lent h ok = framed-refl x h
+steps-frame (suc n) x lent h ok =
     let first = ok 0 (omega arith) in
-    let f = step-frame keeps plain x lent first .0 in
+    let f = step-frame plain x lent first .0 in
     framed-trans x (one x) (iter one n (one x)) f
-    (steps-frame keeps n (one x) (steps-lent keeps x lent first) (omega (arith, f .inside, f .same-length)) (λ i l. ok (suc i) (omega arith)))
+    (steps-frame n (one x) (steps-lent x lent first) (omega (arith, f .inside, f .same-length)) (λ i l. ok (suc i) (omega arith)))
 
-pub run-frame : Keeps → (budget stop : ℕ) (x : Machine) → Lent (x .slots) (x .memory) → running-on budget stop x .a .number ≡ 0 → Framed x (act (run-of budget stop) x)
-run-frame keeps budget stop x lent e =
-    let a = run-as-steps keeps budget stop x lent e in
-    rw (a .same) (steps-frame keeps (running-on budget stop x .a .steps) x lent (run-accepted-inv budget stop x e .3) (a .accepted))
+pub run-frame : (budget stop : ℕ) (x : Machine) → Lent (x .slots) (x .memory) → running-on budget stop x .a .number ≡ 0 → Framed x (act (run-of budget stop) x)
+run-frame budget stop x lent e =
+    let a = run-as-steps budget stop x lent e in
+    rw (a .same) (steps-frame (running-on budget stop x .a .steps) x lent (run-accepted-inv budget stop x e .3) (a .accepted))
 
 -- ---- the memory that a run leaves: a byte that is in the record of none of its steps is as it was
-pub steps-memory : Keeps → (n : ℕ) (x : Machine) → Lent (x .slots) (x .memory) → ((i : ℕ) → i < n → stepping 0 0 (iter one i x) .a .number ≡ 0)
+pub steps-memory : (n : ℕ) (x : Machine) → Lent (x .slots) (x .memory) → ((i : ℕ) → i < n → stepping 0 0 (iter one i x) .a .number ≡ 0)
     → (a : ℕ) → ((i : ℕ) → i < n → NotAmong a (diffs 0 (iter one i x .memory) (iter one (suc i) x .memory))) → getD (iter one n x .memory) a 0 ≡ getD (x .memory) a 0
 unfolding iter
-steps-memory keeps zero x lent ok a h = refl
-steps-memory keeps (suc n) x lent ok a h =
+steps-memory zero x lent ok a h = refl
+steps-memory (suc n) x lent ok a h =
     let first = ok 0 (omega arith) in
-    steps-memory keeps n (one x) (steps-lent keeps x lent first) (λ i l. ok (suc i) (omega arith)) a (λ i l. h (suc i) (omega arith))
-    ∙ step-memory keeps plain x lent first .2 a (h 0 (omega arith))
+    steps-memory n (one x) (steps-lent x lent first) (λ i l. ok (suc i) (omega arith)) a (λ i l. h (suc i) (omega arith))
+    ∙ step-memory plain x lent first .2 a (h 0 (omega arith))
 
-pub run-memory : Keeps → (budget stop : ℕ) (x : Machine) → Lent (x .slots) (x .memory) → running-on budget stop x .a .number ≡ 0
+pub run-memory : (budget stop : ℕ) (x : Machine) → Lent (x .slots) (x .memory) → running-on budget stop x .a .number ≡ 0
     → (a : ℕ) → ((i : ℕ) → i < running-on budget stop x .a .steps → NotAmong a (diffs 0 (iter one i x .memory) (iter one (suc i) x .memory)))
     → getD (act (run-of budget stop) x .memory) a 0 ≡ getD (x .memory) a 0
-run-memory keeps budget stop x lent e a h =
-    let s = run-as-steps keeps budget stop x lent e in
-    rw (s .same) (steps-memory keeps (running-on budget stop x .a .steps) x lent (s .accepted) a h)
+run-memory budget stop x lent e a h =
+    let s = run-as-steps budget stop x lent e in
+    rw (s .same) (steps-memory (running-on budget stop x .a .steps) x lent (s .accepted) a h)

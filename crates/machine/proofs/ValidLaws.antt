@@ -1,20 +1,24 @@
--- Keeps.antt - what the theorems of this crate take of one step: `Keeps`, that it keeps a valid state valid and alters few bytes.
--- Here too: Lent, what is so of anything lent; Valid, what is so once a call accepts it; how each follows from the other.
+-- ValidLaws.antt - Lent: what is so of anything that is lent. Valid: what is so of it once a call accepts it. A step keeps it.
+-- * valid-when-accepted, lent-when-valid, state-fits-when, fits-inv, state-inv: how each follows from the other.
+-- * valid-after-step, record-room: after a step from a valid state the state is valid, and the step's record is short enough.
 -- Source: [01 State], [01 The journal], [00 demand 3].
-use Prim.Native.Nat.{ℕ, zero, suc, _+_, _%_, _^_, _≤_, _<_}
-use mathlib.Core.Path.{_≡_, refl, subst}
+use Prim.Native.Nat.{ℕ, _%_, _^_, _≤_, _<_}
+use mathlib.Core.Path.{_≡_, refl}
 use mathlib.Core.Bool.{Bool, true, false, _&&_}
-use mathlib.Core.List.{List, [], _∷_}
-use native.Mathlib.Nat.{zero-add, le-of-suc-le-suc, not-suc-le-zero}
+use mathlib.Core.List.{List}
+use native.Mathlib.Nat.{zero-add}
 use native.Mathlib.Omega.{arith}
 use lib.ListN.{length, getD, List·getD-eq-default}
 use lib.Dec.{ltb, leb, eqb}
 use borrow.Author.Tests.{le-leb, leb-true, eqb-true, ltb-true, ltb-false}
 use Rattle.bank.specs.Bank.{sr-of, mode-of}
-use Rattle.record.specs.Limits.{slot-limit, byte-limit, longest-record, status-slot, mode-slot, valid-status, valid-value, Each, ValidSlots, ValidBytes}
-use Rattle.record.specs.Change.{diffs, step-record}
+use Rattle.record.specs.Limits.{slot-limit, longest-record, status-slot, mode-slot, valid-status, valid-value, Each, ValidSlots, ValidBytes}
+use Rattle.record.specs.Change.{step-record}
+use Rattle.record.proofs.DiffLaws.{each-implies}
 use Rattle.record.proofs.SizeLaws.{record-length, valid-slots-from}
 use Rattle.step.specs.Steps.{one-step}
+use Rattle.step.proofs.PlacesLaws.{each-at}
+use Rattle.step.proofs.KeepLaws.{Kept, one-step-keeps}
 use Rattle.machine.specs.Calls.{memory-fits, state-fits}
 
 -- anything that is lent: twenty slots of 32 bits, and bytes
@@ -29,25 +33,6 @@ pub record Valid (s m : List ℕ) : Type 0 where
   pub values : ValidSlots s
   pub bytes : ValidBytes m
   pub fits : memory-fits m ≡ true
-
--- what a step keeps: lengths, values that a valid state has, bytes; and at most byte-limit bytes differ
-pub record Kept (s m t n : List ℕ) : Type 0 where
-  pub slots : length t ≡ length s
-  pub memory : length n ≡ length m
-  pub values : ValidSlots t
-  pub bytes : ValidBytes n
-  pub few : length (diffs 0 m n) ≤ byte-limit
-
--- every step keeps it
-pub record Keeps : Type 0 where
-  pub kept : (s m : List ℕ) (level vector : ℕ) → Valid s m → Kept s m (one-step s m level vector .s) (one-step s m level vector .m)
-
--- ---- one element of what holds of each
-pub each-at : (P : ℕ → ℕ → Type 0) (i : ℕ) (xs : List ℕ) (k : ℕ) → Each P i xs → k < length xs → P (i + k) (getD xs k 0)
-each-at P i [] k e h = absurd (not-suc-le-zero h)
-each-at P i (x ∷ xs) zero e h = let q : i ≡ i + 0 = omega arith in subst (λ (n : ℕ). P n x) q (e .0)
-each-at P i (x ∷ xs) (suc k) e h =
-    let q : suc i + k ≡ i + suc k = omega arith in subst (λ (n : ℕ). P n (getD xs k 0)) q (each-at P (suc i) xs k (e .1) (le-of-suc-le-suc h))
 
 -- ---- the tests of the calls
 pub and-left : (a b : Bool) → (a && b) ≡ true → a ≡ true
@@ -92,6 +77,15 @@ valid-when-accepted s m l f g =
       fits = f;
     }
 
+-- a valid state is a lent one
+pub lent-when-valid : (s m : List ℕ) → Valid s m → Lent s m
+lent-when-valid s m v =
+    record {
+      slots = v .slots;
+      words = each-implies (λ k v. (valid-value k v ≡ true) × (v < 2 ^ 32)) (λ k v. v < 2 ^ 32) (λ k v h. h .1) 0 s (v .values);
+      bytes = v .bytes;
+    }
+
 module _ (s m : List ℕ) (v : Valid s m) where
   value-at : (k : ℕ) → k < slot-limit → (valid-value k (getD s k 0) ≡ true) × (getD s k 0 < 2 ^ 32)
   value-at k h = rw zero-add at (each-at (λ i x. (valid-value i x ≡ true) × (x < 2 ^ 32)) 0 s k (v .values) (omega (arith, v .slots)))
@@ -108,20 +102,20 @@ module _ (s m : List ℕ) (v : Valid s m) where
   small-enough = fits-inv m (v .fits) .2
 
 -- ---- after a step
-module _ (k : Keeps) (s m : List ℕ) (level vector : ℕ) (v : Valid s m) where
-  abbrev next : Kept s m (one-step s m level vector .s) (one-step s m level vector .m)
-  next = k .kept s m level vector v
+module _ (s m : List ℕ) (level vector : ℕ) (v : Valid s m) where
+  abbrev pub kept-by : Kept s m (one-step s m level vector .s) (one-step s m level vector .m)
+  kept-by = one-step-keeps s m level vector (v .slots) (v .values) (v .bytes)
 
   pub valid-after-step : Valid (one-step s m level vector .s) (one-step s m level vector .m)
   valid-after-step =
       record {
-        slots = omega (arith, next .slots, v .slots);
-        values = next .values;
-        bytes = next .bytes;
-        fits = rw (next .memory) (v .fits);
+        slots = omega (arith, kept-by .slots, v .slots);
+        values = kept-by .values;
+        bytes = kept-by .bytes;
+        fits = rw (kept-by .memory) (v .fits);
       }
 
   -- its record is at most longest-record bytes long
   pub record-room : length (step-record s (one-step s m level vector .s) m (one-step s m level vector .m)) ≤ longest-record
   record-room =
-      record-length s (one-step s m level vector .s) m (one-step s m level vector .m) (v .slots) (small-enough s m v) (next .few) (v .values) (v .bytes)
+      record-length s (one-step s m level vector .s) m (one-step s m level vector .m) (v .slots) (small-enough s m v) (kept-by .few) (v .values) (v .bytes)
