@@ -293,15 +293,6 @@ module _ (s m j : List ℕ) (mark : ℕ) where
       go true e (Done start) f = absurd (h (rw (e, f)))
       go true e Refused f = let u = undo-when-none s m j mark (none-when-refused s m j mark f) in rw (e, u)
 
-  pub undo-inv : undo-number s m j mark ≡ 0 → (memory-fits m ≡ true) × (state-fits s ≡ true) × (mark ≤ length j) × (mark ≡ 0 → ⊥)
-  unfolding undo-number
-  undo-inv e =
-      let e₁ = pick-zero (not (memory-fits m)) 0 _ e in
-      let e₂ = pick-zero (not (state-fits s)) 1 _ (e₁ .1) in
-      let e₃ = pick-zero (ltb (length j) mark) 3 _ (e₂ .1) in
-      let e₄ = pick-zero (eqb mark 0) 6 _ (e₃ .1) in
-      (not-false (memory-fits m) (e₁ .0), not-false (state-fits s) (e₂ .0), ltb-false (length j) mark (e₃ .0), eqb-false mark 0 (e₄ .0))
-
   pub undo-number-when : memory-fits m ≡ true → state-fits s ≡ true → mark ≤ length j → (mark ≡ 0 → ⊥) → undo-number s m j mark ≡ 0
   unfolding undo-number
   undo-number-when f g h i = rw (f, g, le-ltb (length j) mark h, ne-eqb mark 0 i)

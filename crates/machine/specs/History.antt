@@ -30,6 +30,7 @@ pub data Call : Type 0 where
 
 -- ---- what each call gives back on a machine
 
+-- a step, a run and an undo of a machine  [01 Calls]
 abbrev pub stepping : ℕ → ℕ → Machine → StepCall
 stepping level vector x = step-call (x .slots) (x .memory) level vector (x .journal) (x .mark)
 
@@ -105,6 +106,7 @@ pub record Seen : Type 0 where
   pub memory : List ℕ
   pub mark : ℕ
 
+-- what demand 3 compares of a machine  [00 demand 3]
 abbrev pub seen : Machine → Seen
 seen x = record { slots = x .slots; memory = x .memory; mark = x .mark }
 
