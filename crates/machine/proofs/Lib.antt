@@ -6,3 +6,5 @@ pub mod ActLaws
 pub mod FrameLaws
 pub mod RunLaws
 pub mod GoingBack
+pub mod CallLaws
+pub mod LoopLaws

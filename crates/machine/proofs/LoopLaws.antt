@@ -1,0 +1,96 @@
+-- LoopLaws.antt - the loop of a run: what is left of it, done now, gives the whole run's answer.
+-- Going, going-start, going-again; going-spent and the four other reasons; parts-of-run.
+-- Uses: bits, bank, record, step.
+use Prim.Native.Nat.{ℕ, zero, suc, _+_, _-_, _≤_, _<_}
+use native.Mathlib.Omega.{arith}
+use mathlib.Core.Path.{_≡_, refl, sym, ap, _∙_}
+use mathlib.Core.Bool.{Bool, true, false}
+use mathlib.Core.List.{List}
+use lib.ListN.{length, getD}
+use lib.Dec.{ltb, leb, eqb}
+use borrow.Author.Tests.{leb-true, leb-false, ltb-false}
+use Rattle.bits.specs.Bits.{pick}
+use Rattle.bank.specs.Bank.{pc-of, mode-of}
+use Rattle.record.specs.Limits.{byte-limit, longest-record}
+use Rattle.machine.specs.declared.StepAnswer.{StepAnswer}
+use Rattle.machine.specs.declared.RunAnswer.{RunAnswer}
+use Rattle.machine.specs.Loop.{GoesOn}
+use Rattle.machine.specs.Calls.{memory-fits, state-fits, step-taken, RunCall, ended, running}
+
+-- at the loop's head, n steps done: what is left of the run gives its answer, and a step can be taken
+pub record Going (b stop : ℕ) (s₀ m₀ j₀ : List ℕ) (mark₀ : ℕ) (l₀ s m j : List ℕ) (mark : ℕ) (l : List ℕ) (n : ℕ) : Type 0 where
+  pub le : n ≤ b
+  pub rest : running (b - n) n stop s m j mark ≡ running b 0 stop s₀ m₀ j₀ mark₀
+  pub state : state-fits s ≡ true
+  pub memory : memory-fits m ≡ true
+  pub same-memory : length m ≡ length m₀
+  pub same-journal : length j ≡ length j₀
+  pub same-log : length l ≡ length l₀
+  pub room : byte-limit ≤ length l
+  pub inside : mark ≤ length j
+
+pub going-start : (b stop : ℕ) (s m j : List ℕ) (mark : ℕ) (l : List ℕ) → memory-fits m ≡ true → mark ≤ length j → byte-limit ≤ length l → state-fits s ≡ true → Going b stop s m j mark l s m j mark l 0
+going-start b stop s m j mark l f h k t =
+    record { le = omega arith; rest = (let e : b - 0 ≡ b = omega arith in rw e); state = t; memory = f; same-memory = refl; same-journal = refl; same-log = refl; room = k; inside = h }
+
+module _ (b stop : ℕ) (s₀ m₀ j₀ : List ℕ) (mark₀ : ℕ) (l₀ s m j : List ℕ) (mark : ℕ) (l : List ℕ) (n : ℕ) (i : Going b stop s₀ m₀ j₀ mark₀ l₀ s m j mark l n) where
+  pub going-spent : leb b n ≡ true → ended 1 n s m j mark ≡ running b 0 stop s₀ m₀ j₀ mark₀
+  unfolding running
+  going-spent p = let z : b - n ≡ 0 = (let h : b ≤ n = leb-true b n p in omega arith) in rw z at (i .rest)
+
+  module _ (p : leb b n ≡ false) where
+    more : b - n ≡ suc (b - (n + 1))
+    more = let h : n < b = leb-false b n p in omega arith
+
+    now-left : running (suc (b - (n + 1))) n stop s m j mark ≡ running b 0 stop s₀ m₀ j₀ mark₀
+    now-left = rw more at (i .rest)
+
+    pub going-halted : eqb (mode-of s) 2 ≡ true → ended 2 n s m j mark ≡ running b 0 stop s₀ m₀ j₀ mark₀
+    unfolding running
+    going-halted h = rw h at now-left
+
+    module _ (h2 : eqb (mode-of s) 2 ≡ false) where
+      pub going-stopped : eqb (mode-of s) 1 ≡ true → ended 3 n s m j mark ≡ running b 0 stop s₀ m₀ j₀ mark₀
+      unfolding running
+      going-stopped h = rw (h2, h) at now-left
+
+      module _ (h3 : eqb (mode-of s) 1 ≡ false) where
+        pub going-full : ltb (length j - mark) longest-record ≡ true → ended 4 n s m j mark ≡ running b 0 stop s₀ m₀ j₀ mark₀
+        unfolding running
+        going-full h = rw (h2, h3, h) at now-left
+
+        module _ (h4 : ltb (length j - mark) longest-record ≡ false) where
+          pub going-there : eqb (pc-of s) stop ≡ true → ended 5 n s m j mark ≡ running b 0 stop s₀ m₀ j₀ mark₀
+          unfolding running
+          going-there h = rw (h2, h3, h4, h) at now-left
+
+          module _ (h5 : eqb (pc-of s) stop ≡ false) (s₁ m₁ j₁ l₁ : List ℕ) (a : StepAnswer) (e1 : s₁ ≡ step-taken s m 0 0 j mark .s) (e2 : m₁ ≡ step-taken s m 0 0 j mark .m)
+              (e3 : j₁ ≡ step-taken s m 0 0 j mark .j) (e4 : a ≡ step-taken s m 0 0 j mark .a) (g : GoesOn s₁ m m₁ j j₁ l l₁ (a .mark)) where
+            going-rest : running (b - (n + 1)) (n + 1) stop s₁ m₁ j₁ (a .mark) ≡ running b 0 stop s₀ m₀ j₀ mark₀
+            unfolding running
+            going-rest =
+                let q : running (b - (n + 1)) (n + 1) stop (step-taken s m 0 0 j mark .s) (step-taken s m 0 0 j mark .m) (step-taken s m 0 0 j mark .j) (step-taken s m 0 0 j mark .a .mark) ≡ running b 0 stop s₀ m₀ j₀ mark₀ =
+                rw (h2, h3, h4, h5) at now-left in
+                rw (e1, e2, e3, e4) q
+
+            pub going-again : Going b stop s₀ m₀ j₀ mark₀ l₀ s₁ m₁ j₁ (a .mark) l₁ (n + 1)
+            going-again =
+                record {
+                  le = (let h : n < b = leb-false b n p in omega arith);
+                  rest = going-rest;
+                  state = g .state;
+                  memory = g .memory;
+                  same-memory = g .same-memory ∙ i .same-memory;
+                  same-journal = g .same-journal ∙ i .same-journal;
+                  same-log = g .same-log ∙ i .same-log;
+                  room = (let e = g .same-log in let h = i .room in omega arith);
+                  inside = g .inside;
+                }
+
+  -- what a step asks for
+  pub going-requires : ltb (length j - mark) longest-record ≡ false → (memory-fits m ≡ true) × (mark + longest-record ≤ length j) × (byte-limit ≤ length l) × (state-fits s ≡ true)
+  going-requires h = (i .memory, (let k = ltb-false (length j - mark) longest-record h in let d = i .inside in omega arith), i .room, i .state)
+
+-- the parts of a run's answer
+pub parts-of-run : {k n mark : ℕ} {s m j : List ℕ} {o : RunCall} → ended k n s m j mark ≡ o → (s ≡ o .s) × ((m ≡ o .m) × ((j ≡ o .j) × (record { number = 0; mark = mark; reason = k; steps = n } ≡ o .a)))
+parts-of-run e = (ap (λ (o : RunCall). o .s) e, (ap (λ (o : RunCall). o .m) e, (ap (λ (o : RunCall). o .j) e, ap (λ (o : RunCall). o .a) e)))
