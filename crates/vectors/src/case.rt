@@ -1,17 +1,17 @@
 // case.rt - one case: its step and the undo of it, each compared whole with what the line lists.
 // Means: nothing; proved safe.
-// Uses: machine, setting, text.  Source: [01 Calls and what they give back], crates/vectors/README.md.
-use crate::setting::change_slots;
-use crate::setting::fill;
-use crate::setting::put_bytes;
-use crate::setting::put_runs;
-use crate::setting::put_slots;
-use crate::setting::same;
-use crate::setting::same_slots;
-use crate::text::NO_NUMBER;
-use crate::text::marks;
-use crate::text::number;
-use crate::text::piece;
+// Uses: machine, listing.  Source: [01 Calls and what they give back], crates/vectors/README.md.
+use listing::setting::change_slots;
+use listing::setting::fill;
+use listing::setting::put_bytes;
+use listing::setting::put_runs;
+use listing::setting::put_slots;
+use listing::setting::same;
+use listing::setting::same_slots;
+use listing::text::NO_NUMBER;
+use listing::text::marks;
+use listing::text::number;
+use listing::text::piece;
 
 pub const AGREES: u32 = 0;
 

@@ -1,17 +1,14 @@
 // main.rt - reads cases from standard input, a line each, and counts those that agree, differ and are skipped.
 // Means: nothing; proved safe.
-// Uses: machine, io, libc, os.  Source: [01 Set down and proved], crates/vectors/README.md.
+// Uses: machine, listing, io, libc, os.  Source: [01 Set down and proved], crates/vectors/README.md.
 mod case;
-mod lines;
-mod setting;
 mod stack;
-mod text;
 
 use case::AGREES;
 use case::SKIPPED;
 use libc::STDOUT_FILENO;
-use lines::NO_MORE;
-use lines::Reading;
+use listing::lines::NO_MORE;
+use listing::lines::Reading;
 
 // how many of the cases that differ are named
 const NAMED: u64 = 20;
@@ -71,7 +68,7 @@ fn report(found: u32, before: Tally, number: u64, text: &[u8]) {
     io::write_all(STDOUT_FILENO, b"line ");
     io::print_decimal(STDOUT_FILENO, number);
     io::write_all(STDOUT_FILENO, b" ");
-    io::write_all(STDOUT_FILENO, text::piece(text, b' ', 0));
+    io::write_all(STDOUT_FILENO, listing::text::piece(text, b' ', 0));
     write_reason(found);
 }
 
@@ -133,7 +130,7 @@ fn large_case(p: Progress, line: &[u8]) -> Progress {
 }
 
 fn read_line(p: Progress, chunk: &mut [u8], line: &mut [u8]) -> Progress {
-    let reading = lines::next_line(p.reading, chunk, line);
+    let reading = listing::lines::next_line(p.reading, chunk, line);
     let tally = p.tally;
     Progress { reading, tally }
 }
@@ -183,7 +180,7 @@ fn write_tally(t: Tally) {
 
 fn try_all(chunk: &mut [u8; 65536], line: &mut [u8; 8192]) {
     let p = Progress {
-        reading: lines::start(),
+        reading: listing::lines::start(),
         tally: Tally {
             agree: 0,
             differ: 0,

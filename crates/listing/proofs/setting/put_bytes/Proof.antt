@@ -2,8 +2,8 @@ use Prim.Native.Nat.{_≤_, _-_}
 use lib.ListN.{length}
 use mathlib.Core.Path.{_≡_}
 use borrow.Author.Needs.{needs}
-use Rattle.vectors.proofs.setting.put_bytes.Statement.{statement}
-use Rattle.vectors.proofs.setting.put_bytes.Tie as tie
+use Rattle.listing.proofs.setting.put_bytes.Statement.{statement}
+use Rattle.listing.proofs.setting.put_bytes.Tie as tie
 
 abbrev Inv-loop : tie.InvT-loop
 Inv-loop text to₀ at clear good₀ i₀ i-end to good i = (i ≤ i-end) × (length to ≡ length to₀)

@@ -1,17 +1,18 @@
 use Prim.Native.Nat.{_≤_, _-_}
 use lib.ListN.{length}
+use mathlib.Core.Path.{_≡_}
 use borrow.Author.Needs.{needs}
-use Rattle.vectors.proofs.text.marks.Statement.{statement}
-use Rattle.vectors.proofs.text.marks.Tie as tie
+use Rattle.listing.proofs.setting.fill.Statement.{statement}
+use Rattle.listing.proofs.setting.fill.Tie as tie
 
 abbrev Inv-loop : tie.InvT-loop
-Inv-loop text mark n₀ i₀ i-end n i = (i ≤ length text) × (n ≤ i)
+Inv-loop to₀ i₀ i-end to i = (i ≤ length to) × (length to ≡ length to₀)
 
 abbrev μ-loop : tie.MeasureT-loop
-μ-loop text mark n₀ i₀ i-end n i = length text - i
+μ-loop to₀ i₀ i-end to i = length to₀ - i
 
-pub marks-spec : {M : Type 1} → statement M
-marks-spec =
+pub fill-spec : {M : Type 1} → statement M
+fill-spec =
     tie.close (tie.spec
     Inv-loop
     μ-loop

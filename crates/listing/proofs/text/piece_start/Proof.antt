@@ -1,8 +1,8 @@
 use Prim.Native.Nat.{_≤_, _-_}
 use lib.ListN.{length}
 use borrow.Author.Needs.{needs}
-use Rattle.vectors.proofs.text.piece_start.Statement.{statement}
-use Rattle.vectors.proofs.text.piece_start.Tie as tie
+use Rattle.listing.proofs.text.piece_start.Statement.{statement}
+use Rattle.listing.proofs.text.piece_start.Tie as tie
 
 abbrev Inv-loop : tie.InvT-loop
 Inv-loop text mark k left₀ i₀ i-end left i = i ≤ length text

@@ -1,7 +1,7 @@
 use Prim.Native.Nat.{_-_}
 use borrow.Author.Needs.{needs}
-use Rattle.vectors.proofs.setting.change_slots.Statement.{statement}
-use Rattle.vectors.proofs.setting.change_slots.Tie as tie
+use Rattle.listing.proofs.setting.change_slots.Statement.{statement}
+use Rattle.listing.proofs.setting.change_slots.Tie as tie
 
 abbrev Inv-loop : tie.InvT-loop
 Inv-loop changes slots₀ good₀ k₀ k-end slots good k = Unit {0}

@@ -1,7 +1,7 @@
 use Prim.Native.Nat.{_≤_, _-_}
 use borrow.Author.Needs.{needs}
-use Rattle.vectors.proofs.setting.put_slots.Statement.{statement}
-use Rattle.vectors.proofs.setting.put_slots.Tie as tie
+use Rattle.listing.proofs.setting.put_slots.Statement.{statement}
+use Rattle.listing.proofs.setting.put_slots.Tie as tie
 
 abbrev Inv-loop : tie.InvT-loop
 Inv-loop list slots₀ good₀ k₀ slots good k = k ≤ 20

@@ -1,18 +1,17 @@
-use Prim.Native.Nat.{_-_}
 use lib.ListN.{length}
 use mathlib.Core.Path.{_≡_}
 use borrow.Author.Needs.{needs}
-use Rattle.vectors.proofs.setting.put_runs.Statement.{statement}
-use Rattle.vectors.proofs.setting.put_runs.Tie as tie
+use Rattle.listing.proofs.lines.next_line.Statement.{statement}
+use Rattle.listing.proofs.lines.next_line.Tie as tie
 
 abbrev Inv-loop : tie.InvT-loop
-Inv-loop runs to₀ clear good₀ k₀ k-end to good k = length to ≡ length to₀
+Inv-loop chunk₀ line₀ now₀ turns₀ chunk line now turns = (length chunk ≡ length chunk₀) × (length line ≡ length line₀)
 
 abbrev μ-loop : tie.MeasureT-loop
-μ-loop runs to₀ clear good₀ k₀ k-end to good k = k-end - k
+μ-loop chunk₀ line₀ now₀ turns₀ chunk line now turns = turns
 
-pub put-runs-spec : {M : Type 1} → statement M
-put-runs-spec =
+pub next-line-spec : {M : Type 1} → statement M
+next-line-spec =
     tie.close (tie.spec
     Inv-loop
     μ-loop
@@ -20,8 +19,7 @@ put-runs-spec =
     (λ c. search needs)
     (λ c κs. search needs)
     (λ c. search needs)
-    (λ c κs. search needs)
-    (λ c κs. search needs)
+    (λ c. search needs)
     (λ c. search needs)
     (λ c. search needs)
     (λ c. search needs)

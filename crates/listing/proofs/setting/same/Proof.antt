@@ -1,8 +1,8 @@
 use Prim.Native.Nat.{_≤_, _-_}
 use lib.ListN.{length}
 use borrow.Author.Needs.{needs}
-use Rattle.vectors.proofs.setting.same.Statement.{statement}
-use Rattle.vectors.proofs.setting.same.Tie as tie
+use Rattle.listing.proofs.setting.same.Statement.{statement}
+use Rattle.listing.proofs.setting.same.Tie as tie
 
 abbrev Inv-loop : tie.InvT-loop
 Inv-loop a b d₀ i₀ i-end d i = i ≤ length a

@@ -1,8 +1,8 @@
 use Prim.Native.Nat.{_≤_, _-_}
 use lib.ListN.{length}
 use borrow.Author.Needs.{needs}
-use Rattle.vectors.proofs.text.number.Statement.{statement}
-use Rattle.vectors.proofs.text.number.Tie as tie
+use Rattle.listing.proofs.text.number.Statement.{statement}
+use Rattle.listing.proofs.text.number.Tie as tie
 
 abbrev Inv-loop : tie.InvT-loop
 Inv-loop text n₀ i₀ i-end n i = i ≤ length text
