@@ -59,23 +59,36 @@ fn budget(left: u64) -> u32 {
     1000000
 }
 
-// After a run: nothing is left to do where it did no step.
-fn after(p: Progress, answer: machine::Ran) -> Progress {
-    let done = answer.steps as u64;
+// What a run did: its steps, and the journal's mark after it.
+struct Part {
+    steps: u64,
+    mark: usize,
+}
+
+// A run until the steps are done or the journal is full.
+fn run_part(left: u64, slots: &mut [u32; 20], memory: &mut [u8], journal: &mut [u8]) -> Part {
+    let answer = machine::run(slots, memory, budget(left), STOP, journal, 0);
+    Part {
+        steps: answer.steps as u64,
+        mark: answer.mark,
+    }
+}
+
+// After a part: nothing is left to do if it did no step.
+fn after(p: Progress, part: Part) -> Progress {
     let mut next = p;
-    next.steps = std::num::wrapping_add_u64(p.steps, done);
-    next.bytes = std::num::wrapping_add_u64(p.bytes, answer.mark as u64);
+    next.steps = std::num::wrapping_add_u64(p.steps, part.steps);
+    next.bytes = std::num::wrapping_add_u64(p.bytes, part.mark as u64);
     next.left = 0;
-    if done == 0 {
+    if part.steps == 0 {
         return next;
     }
-    if done < p.left {
-        next.left = p.left - done;
+    if part.steps < p.left {
+        next.left = p.left - part.steps;
     }
     next
 }
 
-// A run until the steps are done or the journal is full.
 fn run_once(
     p: Progress,
     slots: &mut [u32; 20],
@@ -83,10 +96,10 @@ fn run_once(
     journal: &mut [u8],
     hashing: bool,
 ) -> Progress {
-    let answer = machine::run(slots, memory, budget(p.left), STOP, journal, 0);
-    let mut next = after(p, answer);
+    let part = run_part(p.left, slots, memory, journal);
+    let mut next = after(p, part);
     if hashing {
-        next.hash = hashed_to(p.hash, journal, answer.mark);
+        next.hash = hashed_to(p.hash, journal, part.mark);
     }
     next
 }
@@ -108,16 +121,21 @@ pub fn run_all(
     now
 }
 
+// The mark after an undo; 0 if it is refused.
+fn undo_once(slots: &mut [u32; 20], memory: &mut [u8], journal: &[u8], mark: usize) -> usize {
+    let answer = machine::undo(slots, memory, journal, mark);
+    if answer.number != 0 {
+        return 0;
+    }
+    answer.mark
+}
+
 // Undoes all that the journal holds.
 fn undo_all(slots: &mut [u32; 20], memory: &mut [u8], journal: &[u8], mark: usize) {
     let mut at = mark;
     let mut turns = u64::MAX;
     while turns > 0 && at > 0 {
-        let answer = machine::undo(slots, memory, journal, at);
-        at = answer.mark;
-        if answer.number != 0 {
-            at = 0;
-        }
+        at = undo_once(slots, memory, journal, at);
         turns -= 1;
     }
 }
@@ -129,8 +147,8 @@ fn run_twice(
     memory: &mut [u8],
     journal: &mut [u8],
 ) -> Progress {
-    let answer = machine::run(slots, memory, budget(p.left), STOP, journal, 0);
-    undo_all(slots, memory, journal, answer.mark);
+    let part = run_part(p.left, slots, memory, journal);
+    undo_all(slots, memory, journal, part.mark);
     run_once(p, slots, memory, journal, false)
 }
 

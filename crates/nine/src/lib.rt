@@ -34,43 +34,34 @@ fn write_line(slots: &[u32; 20], s: Standing) {
     io::write_all(STDOUT_FILENO, b"\n");
 }
 
-fn after_step(s: Standing, answer: machine::Stepped) -> Standing {
-    if answer.number != 0 {
+fn after_step(s: Standing, number: u32, mark: usize) -> Standing {
+    if number != 0 {
         return s;
     }
     Standing {
         steps: std::num::wrapping_add_u32(s.steps, 1),
-        mark: answer.mark,
+        mark,
     }
 }
 
-fn after_undo(s: Standing, answer: machine::Undone) -> Standing {
-    if answer.number != 0 {
+fn after_undo(s: Standing, number: u32, mark: usize) -> Standing {
+    if number != 0 {
         return s;
     }
     Standing {
         steps: std::num::wrapping_sub_u32(s.steps, 1),
-        mark: answer.mark,
+        mark,
     }
 }
 
-fn step_line(
-    s: Standing,
-    slots: &mut [u32; 20],
-    memory: &mut [u8],
-    journal: &mut [u8],
-) -> Standing {
+fn step(s: Standing, slots: &mut [u32; 20], memory: &mut [u8], journal: &mut [u8]) -> Standing {
     let answer = machine::step(slots, memory, 0, 0, journal, s.mark);
-    let next = after_step(s, answer);
-    write_line(slots, next);
-    next
+    after_step(s, answer.number, answer.mark)
 }
 
-fn undo_line(s: Standing, slots: &mut [u32; 20], memory: &mut [u8], journal: &[u8]) -> Standing {
+fn undo(s: Standing, slots: &mut [u32; 20], memory: &mut [u8], journal: &[u8]) -> Standing {
     let answer = machine::undo(slots, memory, journal, s.mark);
-    let next = after_undo(s, answer);
-    write_line(slots, next);
-    next
+    after_undo(s, answer.number, answer.mark)
 }
 
 fn four_steps(
@@ -81,7 +72,8 @@ fn four_steps(
 ) -> Standing {
     let mut now = s;
     for _ in 0..4u32 {
-        now = step_line(now, slots, memory, journal);
+        now = step(now, slots, memory, journal);
+        write_line(slots, now);
     }
     now
 }
@@ -89,7 +81,8 @@ fn four_steps(
 fn four_undos(s: Standing, slots: &mut [u32; 20], memory: &mut [u8], journal: &[u8]) {
     let mut now = s;
     for _ in 0..4u32 {
-        now = undo_line(now, slots, memory, journal);
+        now = undo(now, slots, memory, journal);
+        write_line(slots, now);
     }
 }
 

@@ -65,6 +65,34 @@ fn put_after(text: &[u8], slots: &mut [u32; 20], memory: &mut [u8], journal: &mu
     slots_good & runs_good & record_good
 }
 
+// An answer's refusal and mark.
+struct Answer {
+    number: u32,
+    mark: usize,
+}
+
+fn step(
+    slots: &mut [u32; 20],
+    memory: &mut [u8],
+    level: u32,
+    vector: u8,
+    journal: &mut [u8],
+) -> Answer {
+    let answer = machine::step(slots, memory, level, vector, journal, MARK);
+    Answer {
+        number: answer.number,
+        mark: answer.mark,
+    }
+}
+
+fn undo(slots: &mut [u32; 20], memory: &mut [u8], journal: &[u8], mark: usize) -> Answer {
+    let answer = machine::undo(slots, memory, journal, mark);
+    Answer {
+        number: answer.number,
+        mark: answer.mark,
+    }
+}
+
 // Takes the step, and compares with the goal.
 fn compare_step(
     text: &[u8],
@@ -83,7 +111,7 @@ fn compare_step(
     if 255 < vector {
         return MALFORMED;
     }
-    let answer = machine::step(slots, memory, level as u32, vector as u8, journal, MARK);
+    let answer = step(slots, memory, level as u32, vector as u8, journal);
     if answer.number != 0 {
         return STEP_REFUSED;
     }
@@ -111,7 +139,7 @@ fn compare_undo(
     wanted: &[u8],
     journal: &[u8],
 ) -> u32 {
-    let answer = machine::undo(slots, memory, journal, next_mark(text));
+    let answer = undo(slots, memory, journal, next_mark(text));
     if answer.number != 0 {
         return UNDO_REFUSED;
     }

@@ -18,6 +18,7 @@ four-steps-spec =
     μ-loop
     (λ c. search needs)
     (λ c κs. search needs)
+    (λ c κs. search needs)
     (λ c. search needs)
     (λ c. search needs)
     (λ c. search needs)
