@@ -1,0 +1,28 @@
+use lib.ListN.{length}
+use mathlib.Core.Path.{_≡_}
+use borrow.Author.Needs.{needs}
+use Rattle.bench.proofs.running.run_all_twice.Statement.{statement}
+use Rattle.bench.proofs.running.run_all_twice.Tie as tie
+
+abbrev Inv-loop : tie.InvT-loop
+Inv-loop slots₀ memory₀ journal₀ now₀ turns₀ slots memory journal now turns = (length memory ≡ length memory₀) × (length journal ≡ length journal₀)
+
+abbrev μ-loop : tie.MeasureT-loop
+μ-loop slots₀ memory₀ journal₀ now₀ turns₀ slots memory journal now turns = turns
+
+pub run-all-twice-spec : {M : Type 1} → statement M
+run-all-twice-spec =
+    tie.close (tie.spec
+    Inv-loop
+    μ-loop
+    (λ c. search needs)
+    (λ c κs. search needs)
+    (λ c. search needs)
+    (λ c. search needs)
+    (λ c. search needs)
+    (λ c. search needs)
+    (λ c. search needs)
+    (λ c. search needs)
+    (λ c. search needs)
+    (λ c. search needs)
+    (λ c. search needs))

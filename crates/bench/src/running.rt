@@ -1,0 +1,169 @@
+// running.rt - runs of many steps from a reset, with a journal that starts again when it is full.
+// Means: nothing; proved safe.
+// Uses: machine.  Source: [01 Calls and what they give back]; the hash is FNV-1a of 32 bits.
+// no program reaches this address
+const STOP: u32 = 4294967295;
+
+const HASH_START: u32 = 2166136261;
+
+// How far a run is: steps to do, steps done, journal bytes written and their hash.
+pub struct Progress {
+    pub left: u64,
+    pub steps: u64,
+    pub bytes: u64,
+    pub hash: u32,
+}
+
+pub fn start(count: u64) -> Progress {
+    Progress {
+        left: count,
+        steps: 0,
+        bytes: 0,
+        hash: HASH_START,
+    }
+}
+
+fn times_prime(x: u32) -> u32 {
+    (x as u64 * 16777619 % 4294967296) as u32
+}
+
+fn with_byte(hash: u32, b: u8) -> u32 {
+    times_prime(hash ^ b as u32)
+}
+
+fn hashed(hash: u32, bytes: &[u8]) -> u32 {
+    let mut h = hash;
+    for i in 0..bytes.len() {
+        h = with_byte(h, bytes[i]);
+    }
+    h
+}
+
+pub fn hash_of(bytes: &[u8]) -> u32 {
+    hashed(HASH_START, bytes)
+}
+
+// The journal's first bytes, as many as the mark says.
+fn hashed_to(hash: u32, journal: &[u8], mark: usize) -> u32 {
+    if journal.len() < mark {
+        return hash;
+    }
+    hashed(hash, &journal[0..mark])
+}
+
+// The largest budget that a run takes.
+fn budget(left: u64) -> u32 {
+    if left < 1000000 {
+        return left as u32;
+    }
+    1000000
+}
+
+// What a run did: its steps, and the journal's mark after it.
+struct Part {
+    steps: u64,
+    mark: usize,
+}
+
+// A run until the steps are done or the journal is full.
+fn run_part(left: u64, slots: &mut [u32; 20], memory: &mut [u8], journal: &mut [u8]) -> Part {
+    let answer = machine::run(slots, memory, budget(left), STOP, journal, 0);
+    Part {
+        steps: answer.steps as u64,
+        mark: answer.mark,
+    }
+}
+
+// After a part: nothing is left to do if it did no step.
+fn after(p: Progress, part: Part) -> Progress {
+    let mut next = p;
+    next.steps = std::num::wrapping_add_u64(p.steps, part.steps);
+    next.bytes = std::num::wrapping_add_u64(p.bytes, part.mark as u64);
+    next.left = 0;
+    if part.steps == 0 {
+        return next;
+    }
+    if part.steps < p.left {
+        next.left = p.left - part.steps;
+    }
+    next
+}
+
+fn run_once(
+    p: Progress,
+    slots: &mut [u32; 20],
+    memory: &mut [u8],
+    journal: &mut [u8],
+    hashing: bool,
+) -> Progress {
+    let part = run_part(p.left, slots, memory, journal);
+    let mut next = after(p, part);
+    if hashing {
+        next.hash = hashed_to(p.hash, journal, part.mark);
+    }
+    next
+}
+
+// Runs until the steps are done.
+pub fn run_all(
+    p: Progress,
+    slots: &mut [u32; 20],
+    memory: &mut [u8],
+    journal: &mut [u8],
+    hashing: bool,
+) -> Progress {
+    let mut now = p;
+    let mut turns = u64::MAX;
+    while turns > 0 && now.left > 0 {
+        now = run_once(now, slots, memory, journal, hashing);
+        turns -= 1;
+    }
+    now
+}
+
+// The mark after an undo; 0 if it is refused.
+fn undo_once(slots: &mut [u32; 20], memory: &mut [u8], journal: &[u8], mark: usize) -> usize {
+    let answer = machine::undo(slots, memory, journal, mark);
+    if answer.number != 0 {
+        return 0;
+    }
+    answer.mark
+}
+
+// Undoes all that the journal holds.
+fn undo_all(slots: &mut [u32; 20], memory: &mut [u8], journal: &[u8], mark: usize) {
+    let mut at = mark;
+    let mut turns = u64::MAX;
+    while turns > 0 && at > 0 {
+        at = undo_once(slots, memory, journal, at);
+        turns -= 1;
+    }
+}
+
+// A run, the undo of it, and the run again.
+fn run_twice(
+    p: Progress,
+    slots: &mut [u32; 20],
+    memory: &mut [u8],
+    journal: &mut [u8],
+) -> Progress {
+    let part = run_part(p.left, slots, memory, journal);
+    undo_all(slots, memory, journal, part.mark);
+    run_once(p, slots, memory, journal, false)
+}
+
+// Runs until the steps are done; each is undone once and done again.
+pub fn run_all_twice(
+    p: Progress,
+    slots: &mut [u32; 20],
+    memory: &mut [u8],
+    journal: &mut [u8],
+) -> Progress {
+    let mut now = p;
+    let mut turns = u64::MAX;
+    while turns > 0 && now.left > 0 {
+        now = run_twice(now, slots, memory, journal);
+        turns -= 1;
+    }
+    now
+}

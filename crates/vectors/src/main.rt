@@ -1,0 +1,198 @@
+// main.rt - reads cases from standard input, a line each, and counts those that agree, differ and are skipped.
+// Means: nothing; proved safe.
+// Uses: machine, listing, io, libc, os.  Source: [01 Set down and proved], crates/vectors/README.md.
+mod case;
+mod stack;
+
+use case::AGREES;
+use case::SKIPPED;
+use libc::STDOUT_FILENO;
+use listing::lines::NO_MORE;
+use listing::lines::Reading;
+
+// how many of the cases that differ are named
+const NAMED: u64 = 20;
+
+struct Tally {
+    agree: u64,
+    differ: u64,
+    skipped: u64,
+}
+
+struct Progress {
+    reading: Reading,
+    tally: Tally,
+}
+
+fn one_more(n: u64) -> u64 {
+    std::num::wrapping_add_u64(n, 1)
+}
+
+fn counted(t: Tally, found: u32) -> Tally {
+    let mut next = t;
+    match found {
+        case::AGREES => next.agree = one_more(t.agree),
+        case::SKIPPED => next.skipped = one_more(t.skipped),
+        _ => next.differ = one_more(t.differ),
+    }
+    next
+}
+
+fn write_reason(found: u32) -> bool {
+    match found {
+        case::MALFORMED => io::write_all(STDOUT_FILENO, b": no case\n"),
+        case::STEP_REFUSED => io::write_all(STDOUT_FILENO, b": the step is refused\n"),
+        case::STEP_SLOTS => io::write_all(STDOUT_FILENO, b": slots after the step\n"),
+        case::STEP_MEMORY => io::write_all(STDOUT_FILENO, b": memory after the step\n"),
+        case::STEP_MARK => io::write_all(STDOUT_FILENO, b": mark after the step\n"),
+        case::STEP_JOURNAL => io::write_all(STDOUT_FILENO, b": journal after the step\n"),
+        case::UNDO_REFUSED => io::write_all(STDOUT_FILENO, b": the undo is refused\n"),
+        case::UNDO_SLOTS => io::write_all(STDOUT_FILENO, b": slots after the undo\n"),
+        case::UNDO_MEMORY => io::write_all(STDOUT_FILENO, b": memory after the undo\n"),
+        case::UNDO_MARK => io::write_all(STDOUT_FILENO, b": mark after the undo\n"),
+        _ => true,
+    }
+}
+
+// Names a case that differs, if it is among the first.
+fn report(found: u32, before: Tally, number: u64, text: &[u8]) {
+    if found == AGREES {
+        return;
+    }
+    if found == SKIPPED {
+        return;
+    }
+    if NAMED <= before.differ {
+        return;
+    }
+    io::write_all(STDOUT_FILENO, b"line ");
+    io::print_decimal(STDOUT_FILENO, number);
+    io::write_all(STDOUT_FILENO, b" ");
+    io::write_all(STDOUT_FILENO, listing::text::piece(text, b' ', 0));
+    write_reason(found);
+}
+
+fn reported(p: Progress, text: &[u8], found: u32) -> Progress {
+    let reading = p.reading;
+    let tally = p.tally;
+    report(found, tally, reading.number, text);
+    Progress {
+        reading,
+        tally: counted(tally, found),
+    }
+}
+
+// The bytes of the line that was read, or all its room if it is too long.
+fn text_of(line: &[u8], r: Reading) -> &[u8] {
+    let n = r.length;
+    if n < line.len() {
+        return &line[0..n];
+    }
+    line
+}
+
+// The memory that the line asks for; 0 if it is no case or too long.
+fn room_of(line: &[u8], r: Reading) -> usize {
+    if line.len() < r.length {
+        return 0;
+    }
+    case::memory_length(text_of(line, r))
+}
+
+fn try_small(
+    p: Progress,
+    text: &[u8],
+    memory: &mut [u8; 65536],
+    wanted: &mut [u8; 65536],
+) -> Progress {
+    reported(p, text, case::try_case(text, memory, wanted))
+}
+
+fn try_large(
+    p: Progress,
+    text: &[u8],
+    memory: &mut [u8; 16777216],
+    wanted: &mut [u8; 16777216],
+) -> Progress {
+    reported(p, text, case::try_case(text, memory, wanted))
+}
+
+fn small_case(p: Progress, line: &[u8]) -> Progress {
+    let mut memory = [0u8; 65536];
+    let mut wanted = [0u8; 65536];
+    try_small(p, text_of(line, p.reading), &mut memory, &mut wanted)
+}
+
+fn large_case(p: Progress, line: &[u8]) -> Progress {
+    let mut memory = [0u8; 16777216];
+    let mut wanted = [0u8; 16777216];
+    try_large(p, text_of(line, p.reading), &mut memory, &mut wanted)
+}
+
+fn read_line(p: Progress, chunk: &mut [u8], line: &mut [u8]) -> Progress {
+    let reading = listing::lines::next_line(p.reading, chunk, line);
+    let tally = p.tally;
+    Progress { reading, tally }
+}
+
+// Tries the next 2 to the power of k lines. A compiler puts no large frame of another function into that of one that
+// calls itself: so the memories are on the stack only while they are used.
+fn try_lines(k: u32, large: bool, p: Progress, chunk: &mut [u8], line: &mut [u8]) -> Progress {
+    if p.reading.state == NO_MORE {
+        return p;
+    }
+    if 0 < k {
+        let half = try_lines(k - 1, large, p, chunk, line);
+        return try_lines(k - 1, large, half, chunk, line);
+    }
+    let q = read_line(p, chunk, line);
+    if q.reading.state == NO_MORE {
+        return q;
+    }
+    let n = room_of(line, q.reading);
+    if n == 0 {
+        return reported(q, text_of(line, q.reading), case::MALFORMED);
+    }
+    if n <= 65536 {
+        return small_case(q, line);
+    }
+    if large {
+        return large_case(q, line);
+    }
+    reported(q, text_of(line, q.reading), SKIPPED)
+}
+
+fn write_tally(t: Tally) {
+    if 0 < t.skipped {
+        io::write_all(
+            STDOUT_FILENO,
+            b"skipped: memory above 65536 bytes, and no stack limit of 64 MiB or more is told\n",
+        );
+    }
+    io::write_all(STDOUT_FILENO, b"agree ");
+    io::print_decimal(STDOUT_FILENO, t.agree);
+    io::write_all(STDOUT_FILENO, b", differ ");
+    io::print_decimal(STDOUT_FILENO, t.differ);
+    io::write_all(STDOUT_FILENO, b", skipped ");
+    io::print_decimal(STDOUT_FILENO, t.skipped);
+    io::write_all(STDOUT_FILENO, b"\n");
+}
+
+fn try_all(chunk: &mut [u8; 65536], line: &mut [u8; 8192]) {
+    let p = Progress {
+        reading: listing::lines::start(),
+        tally: Tally {
+            agree: 0,
+            differ: 0,
+            skipped: 0,
+        },
+    };
+    let q = try_lines(40, stack::is_large(), p, chunk, line);
+    write_tally(q.tally);
+}
+
+fn main() {
+    let mut chunk = [0u8; 65536];
+    let mut line = [0u8; 8192];
+    try_all(&mut chunk, &mut line);
+}

@@ -1,0 +1,57 @@
+#!/usr/bin/env python3
+"""Chooses the single-step cases that the gate runs (crates/vectors/stdin).
+
+Usage: tools/select_vectors.py FOLDER > crates/vectors/stdin
+
+FOLDER holds the vector files, *.vec.gz, a case to a line (crates/vectors/README.md). Chosen are, of the cases whose
+memory is 65,536 bytes or less: all of choice, halt, interrupt and scope; of every other file three cases of each name,
+spread evenly over those that it has; and what is then still missing of three for each flag string. Where there are
+fewer than three, all. The choice depends on nothing but the files, and keeps their order.
+"""
+import collections
+import gzip
+import pathlib
+import sys
+
+WHOLE = {"choice", "halt", "interrupt", "scope"}
+EACH = 3
+LARGEST = 65536
+
+
+def spread(items, n):
+    """n of the items, or all, evenly apart."""
+    if len(items) <= n:
+        return items
+    return [items[i * (len(items) - 1) // (n - 1)] for i in range(n)]
+
+
+def main():
+    if len(sys.argv) != 2:
+        sys.exit(__doc__)
+    files = sorted(pathlib.Path(sys.argv[1]).glob("*.vec.gz"))
+    if not files:
+        sys.exit(f"no *.vec.gz in {sys.argv[1]}")
+    cases, chosen = [], set()
+    for path in files:
+        kind = path.name.split(".")[0]
+        by_name = collections.defaultdict(list)
+        for line in gzip.open(path, "rt", encoding="ascii"):
+            name, flags, length = line.split(" ", 3)[:3]
+            if int(length, 16) > LARGEST:
+                continue
+            by_name[name].append(len(cases))
+            cases.append((flags, line))
+        for places in by_name.values():
+            chosen.update(places if kind in WHOLE else spread(places, EACH))
+    by_flags = collections.defaultdict(list)
+    for place, (flags, _) in enumerate(cases):
+        by_flags[flags].append(place)
+    for places in by_flags.values():
+        if sum(p in chosen for p in places) < EACH:
+            chosen.update(places[:EACH])
+    for place in sorted(chosen):
+        sys.stdout.write(cases[place][1])
+
+
+if __name__ == "__main__":
+    main()
