@@ -4,14 +4,13 @@
 -- Uses: bits, bus, operand, plan, store, touch.
 use Prim.Native.Nat.{ℕ, _+_, _*_, _%_, _/_, _-_, _<_, _≤_}
 use native.Mathlib.Omega.{arith}
-use mathlib.Core.Path.{_≡_, refl, sym, ap, _∙_}
+use mathlib.Core.Path.{_≡_}
 use mathlib.Core.Bool.{Bool, true, false}
 use mathlib.Core.List.{List}
 use lib.ListN.{length}
 use lib.Dec.{leb, eqb}
 use Rattle.bits.specs.Bits.{pick, by-size}
 use Rattle.bits.proofs.BitsLaws.{Turns}
-use Rattle.bus.specs.declared.Flow.{Flow}
 use Rattle.bus.specs.Bus.{put-sized}
 use Rattle.operand.specs.Operands.{get}
 use Rattle.plan.specs.declared.Plan.{Plan}

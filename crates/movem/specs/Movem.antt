@@ -1,7 +1,7 @@
 -- Movem.antt - MOVEM as walks along a list of 16 bits, lowest bit first: registers loaded, room asked, registers stored; and MOVEP's store.
 -- Choices: nothing past a list is read, and an empty list touches no operand [01 Operands]; a block that cannot be written faults at the
 -- first of its writes in the manual's order, downward from A7 for -(An).
--- Laws: proofs/MovemLaws.antt.  Source: [003 B MOVEM], [003 B MOVEP], [01 step 6], [01 Operands].
+-- Laws: proofs/MovemLaws.antt, proofs/BlockLaws.antt.  Source: [003 B MOVEM], [003 B MOVEP], [01 step 6], [01 Operands].
 use Prim.Native.Nat.{ℕ, _+_, _*_, _%_, _/_, _-_}
 use mathlib.Core.Bool.{Bool}
 use mathlib.Core.List.{List, [], _∷_}
@@ -120,6 +120,7 @@ part-of r p k = pick (leb 8 (p .z)) (byte-of (p .v) (k % 16 + 2 - p .z % 2 * 2))
 unfoldable pub put-part : List ℕ → Plan → Way → Spot → List ℕ → List ℕ
 put-part r p w d m = pick (listed d) (put-sized m (d .a) (w .z) (part-of r p (d .k))) m
 
+-- one bit of the list: memory, and where the walk stands  [ours]
 unfoldable pub put-one : List ℕ → Plan → Way → Walk → Walk
 put-one r p w t = record { x = put-part r p w (t .d) (t .x); d = next-spot w (t .d) (p .f) }
 

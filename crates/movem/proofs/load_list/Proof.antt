@@ -13,37 +13,8 @@ Inv-loop r₀ mem k w d₀ j₀ r d j = Turns (load-one (view-of mem) k w) 16 j 
 abbrev μ-loop : tie.MeasureT-loop
 μ-loop r₀ mem k w d₀ j₀ r d j = 16 - j
 
-first-spot-requires : tie.Need-first-spot-requires Inv-loop μ-loop
-first-spot-requires c κs = search needs
-
-loop-holds : tie.Need-loop-holds Inv-loop μ-loop
-loop-holds c = search walk-start
-
-load-one-requires : tie.Need-load-one-requires Inv-loop μ-loop
-load-one-requires c κs = search needs
-
-add-j : tie.Need-add-j Inv-loop μ-loop
-add-j c = search needs
-
-loop-less : tie.Need-loop-less Inv-loop μ-loop
-loop-less c = search needs
-
-loop-again : tie.Need-loop-again Inv-loop μ-loop
-loop-again c = search walk-again
-
-returns : tie.Need-returns Inv-loop μ-loop
-returns c = (search walk-end-spot, search walk-end-list)
-
 pub load-list-spec : {M : Type 1} → statement M
 load-list-spec =
-    tie.close
-    (tie.spec
-    Inv-loop
-    μ-loop
-    first-spot-requires
-    loop-holds
-    load-one-requires
-    add-j
-    loop-less
-    loop-again
-    returns)
+    tie.close (tie.spec
+    Inv-loop μ-loop (λ c κs. search needs) (λ c. search walk-start) (λ c κs. search needs) (λ c. search needs) (λ c. search needs)
+    (λ c. search walk-again) (λ c. (search walk-end-spot, search walk-end-list)))

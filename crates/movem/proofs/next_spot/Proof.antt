@@ -6,5 +6,5 @@ use Rattle.movem.proofs.next_spot.Tie as tie
 pub next-spot-spec : {M : Type 1} → statement M
 next-spot-spec =
     tie.close (tie.spec
-    (λ c κs. search needs) (λ c κs. search needs) (λ c. search (next-spot-listed, next-spot-unlisted))
-    (λ c. search (next-spot-listed, next-spot-unlisted)))
+    (λ c κs. search needs) (λ c κs. search needs) (λ c. search next-spot-listed)
+    (λ c. search next-spot-unlisted))

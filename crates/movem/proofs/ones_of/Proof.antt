@@ -10,24 +10,8 @@ Inv-loop list rest₀ n₀ j₀ rest n j = Counted list j n rest
 abbrev μ-loop : tie.MeasureT-loop
 μ-loop list rest₀ n₀ j₀ rest n j = 16 - j
 
-loop-holds : tie.Need-loop-holds Inv-loop μ-loop
-loop-holds c = search counted-start
-
-add-n : tie.Need-add-n Inv-loop μ-loop
-add-n c = search needs
-
-add-j : tie.Need-add-j Inv-loop μ-loop
-add-j c = search needs
-
-loop-less : tie.Need-loop-less Inv-loop μ-loop
-loop-less c = search needs
-
-loop-again : tie.Need-loop-again Inv-loop μ-loop
-loop-again c = search counted-again
-
-returns : tie.Need-returns Inv-loop μ-loop
-returns c = (search counted-end, search counted-bound)
-
 pub ones-of-spec : {M : Type 1} → statement M
 ones-of-spec =
-    tie.close (tie.spec Inv-loop μ-loop loop-holds add-n add-j loop-less loop-again returns)
+    tie.close (tie.spec
+    Inv-loop μ-loop (λ c. search counted-start) (λ c. search needs) (λ c. search needs) (λ c. search needs) (λ c. search counted-again)
+    (λ c. (search counted-end, search counted-bound)))

@@ -6,5 +6,5 @@ use Rattle.movem.proofs.part_of.Tie as tie
 pub part-of-spec : {M : Type 1} → statement M
 part-of-spec =
     tie.close (tie.spec
-    (λ c. search needs) (λ c. search needs) (λ c. search needs) (λ c κs. search needs) (λ c. search (part-of-bytes, part-of-register))
-    (λ c κs. search needs) (λ c. search (part-of-bytes, part-of-register)))
+    (λ c. search needs) (λ c. search needs) (λ c. search needs) (λ c κs. search needs) (λ c. search part-of-bytes)
+    (λ c κs. search needs) (λ c. search part-of-register))

@@ -13,37 +13,8 @@ Inv-loop mem w d₀ j₀ d j = Turns (room-one (view-of mem) w) 16 j d₀ d
 abbrev μ-loop : tie.MeasureT-loop
 μ-loop mem w d₀ j₀ d j = 16 - j
 
-first-spot-requires : tie.Need-first-spot-requires Inv-loop μ-loop
-first-spot-requires c κs = search needs
-
-loop-holds : tie.Need-loop-holds Inv-loop μ-loop
-loop-holds c = search turns-start
-
-room-one-requires : tie.Need-room-one-requires Inv-loop μ-loop
-room-one-requires c κs = search needs
-
-add-j : tie.Need-add-j Inv-loop μ-loop
-add-j c = search needs
-
-loop-less : tie.Need-loop-less Inv-loop μ-loop
-loop-less c = search needs
-
-loop-again : tie.Need-loop-again Inv-loop μ-loop
-loop-again c = search turns-again
-
-returns : tie.Need-returns Inv-loop μ-loop
-returns c = search spot-end
-
 pub room-list-spec : {M : Type 1} → statement M
 room-list-spec =
-    tie.close
-    (tie.spec
-    Inv-loop
-    μ-loop
-    first-spot-requires
-    loop-holds
-    room-one-requires
-    add-j
-    loop-less
-    loop-again
-    returns)
+    tie.close (tie.spec
+    Inv-loop μ-loop (λ c κs. search needs) (λ c. search turns-start) (λ c κs. search needs) (λ c. search needs) (λ c. search needs)
+    (λ c. search turns-again) (λ c. search spot-end))

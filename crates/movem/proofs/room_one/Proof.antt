@@ -6,5 +6,5 @@ use Rattle.movem.proofs.room_one.Tie as tie
 pub room-one-spec : {M : Type 1} → statement M
 room-one-spec =
     tie.close (tie.spec
-    (λ c κs. search needs) (λ c κs. search needs) (λ c. search (room-listed, room-unlisted)) (λ c κs. search needs)
-    (λ c. search (room-listed, room-unlisted)))
+    (λ c κs. search needs) (λ c κs. search needs) (λ c. search room-listed) (λ c κs. search needs)
+    (λ c. search room-unlisted))

@@ -6,6 +6,6 @@ use Rattle.movem.proofs.room_way.Tie as tie
 pub room-way-spec : {M : Type 1} → statement M
 room-way-spec =
     tie.close (tie.spec
-    (λ c. search needs) (λ c. search needs) (λ c. search (room-way-up, room-way-down, room-way-bytes)) (λ c. search needs) (λ c κs. search needs)
-    (λ c. search needs) (λ c κs. search needs) (λ c. search (room-way-up, room-way-down, room-way-bytes)) (λ c. search needs) (λ c. search needs)
-    (λ c. search (room-way-up, room-way-down, room-way-bytes)))
+    (λ c. search needs) (λ c. search needs) (λ c. search room-way-up) (λ c. search needs) (λ c κs. search needs)
+    (λ c. search needs) (λ c κs. search needs) (λ c. search room-way-down) (λ c. search needs) (λ c. search needs)
+    (λ c. search room-way-bytes))

@@ -6,4 +6,4 @@ use Rattle.movem.proofs.stored.Tie as tie
 pub stored-spec : {M : Type 1} → statement M
 stored-spec =
     tie.close (tie.spec
-    (λ c. search (stored-own, stored-other)) (λ c κs. search needs) (λ c. search (stored-own, stored-other)))
+    (λ c. search stored-own) (λ c κs. search needs) (λ c. search stored-other))

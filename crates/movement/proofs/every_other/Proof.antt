@@ -7,4 +7,4 @@ pub every-other-spec : {M : Type 1} → statement M
 every-other-spec =
     tie.close (tie.spec
     (λ c κs. search needs) (λ c κs. search needs) (λ c κs. search needs) (λ c. search needs) (λ c. search needs)
-    (λ c. search (every-other-when-long, every-other-when-word)) (λ c. search (every-other-when-long, every-other-when-word)))
+    (λ c. search every-other-when-long) (λ c. search every-other-when-word))
