@@ -3,7 +3,7 @@
 -- Uses: bits, flags, plan.
 use Prim.Native.Nat.{ℕ, _+_, _*_, _%_, _/_, _^_, _<_}
 use native.Mathlib.Omega.{arith}
-use mathlib.Core.Path.{_≡_}
+use mathlib.Core.Path.{_≡_, sym, _∙_}
 use mathlib.Core.Bool.{Bool, true, false, _&&_, not}
 use mathlib.Core.List.{List, [], _∷_}
 use lib.ListN.{getD}
@@ -13,19 +13,21 @@ use Rattle.flags.specs.Flags.{sr-bits, with-ccr}
 use Rattle.plan.specs.declared.Plan.{Plan}
 use Rattle.bank.specs.Bank.{sr-of, supervisor, tracing, bank, usp-after, ssp-after, sr-after, mode-after, long, slots-of, settle}
 
--- the bank, with its last two registers
+-- the bank, with its last two registers a and b
 abbrev bank-with : List ℕ → ℕ → ℕ → List ℕ
 bank-with s a b =
     getD s 0 0 ∷ getD s 1 0 ∷ getD s 2 0 ∷ getD s 3 0 ∷ getD s 4 0 ∷ getD s 5 0 ∷ getD s 6 0 ∷ getD s 7 0
-    ∷ getD s 8 0 ∷ getD s 9 0 ∷ getD s 10 0 ∷ getD s 11 0 ∷ getD s 12 0 ∷ getD s 13 0 ∷ getD s 14 0 ∷ a ∷ b ∷ []
+    ∷ getD s 8 0 ∷ getD s 9 0 ∷ getD s 10 0 ∷ getD s 11 0 ∷ getD s 12 0 ∷ getD s 13 0 ∷ getD s 14 0 ∷ a ∷ b
+    ∷ getD s 17 0 ∷ getD s 18 0 ∷ getD s 19 0 ∷ []
 
-pub bank-supervisor : (s : List ℕ) → supervisor (sr-of s) ≡ true → bank-with s (getD s 16 0) (getD s 15 0) ≡ bank s
-unfolding bank
-bank-supervisor s t = rw t
+module _ (s : List ℕ) (b : Bool) (e : b ≡ supervisor (sr-of s)) where
+  pub bank-supervisor : b ≡ true → bank-with s (getD s 16 0) (getD s 15 0) ≡ bank s
+  unfolding bank
+  bank-supervisor t = rw (sym e ∙ t)
 
-pub bank-user : (s : List ℕ) → supervisor (sr-of s) ≡ false → bank-with s (getD s 15 0) 0 ≡ bank s
-unfolding bank
-bank-user s t = rw t
+  pub bank-user : b ≡ false → bank-with s (getD s 15 0) 0 ≡ bank s
+  unfolding bank
+  bank-user t = rw (sym e ∙ t)
 
 module _ (s r : List ℕ) where
   module _ (t : supervisor (sr-of s) ≡ true) where

@@ -19,13 +19,16 @@ pub fn tracing(sr: u32) -> bool
     sr / 32768 % 2 == 1
 }
 
-// D0 to D7, A0 to A6, the active stack pointer as A7, and USP beside it in supervisor state.
-pub fn bank(s: &[u32; 20]) -> [u32; 17]
-    ensures { λ r. ⌜ r ≡ bank (now (s .entry)) ⌝ }
+// D0 to D7, A0 to A6, the active stack pointer as A7, and USP beside it in supervisor state: put in their order where the slots stand, so
+// that no step copies them. No instruction reaches the three slots behind them.
+pub fn bank(s: &mut [u32; 20])
+    ensures { λ _. ⌜ now (s .exit) ≡ bank (now (s .entry)) ⌝ }
 {
-    let sup = s[18] / 8192 % 2 == 1;
+    let sup = supervisor(s[18]);
+    let usp = s[15];
+    let ssp = s[16];
     if sup {
-        return [
+        let r = [
             s[0],
             s[1],
             s[2],
@@ -41,11 +44,16 @@ pub fn bank(s: &[u32; 20]) -> [u32; 17]
             s[12],
             s[13],
             s[14],
-            s[16],
-            s[15],
+            ssp,
+            usp,
+            s[17],
+            s[18],
+            s[19],
         ];
+        *s = r;
+        return;
     }
-    [
+    let r = [
         s[0],
         s[1],
         s[2],
@@ -61,13 +69,17 @@ pub fn bank(s: &[u32; 20]) -> [u32; 17]
         s[12],
         s[13],
         s[14],
-        s[15],
+        usp,
         0,
-    ]
+        s[17],
+        s[18],
+        s[19],
+    ];
+    *s = r;
 }
 
 // USP and SSP after an instruction: A7 goes back to the one that was active at its start.
-fn usp_after(s: &[u32; 20], r: &[u32; 17]) -> u32
+fn usp_after(s: &[u32; 20], r: &[u32; 20]) -> u32
     ensures { λ q. ⌜ q ≡ usp-after (now (s .entry)) (now (r .entry)) ⌝ }
 {
     let sup = s[18] / 8192 % 2 == 1;
@@ -77,7 +89,7 @@ fn usp_after(s: &[u32; 20], r: &[u32; 17]) -> u32
     r[15]
 }
 
-fn ssp_after(s: &[u32; 20], r: &[u32; 17]) -> u32
+fn ssp_after(s: &[u32; 20], r: &[u32; 20]) -> u32
     ensures { λ q. ⌜ q ≡ ssp-after (now (s .entry)) (now (r .entry)) ⌝ }
 {
     let sup = s[18] / 8192 % 2 == 1;
@@ -157,9 +169,9 @@ fn slots_of(
     ]
 }
 
-// The slots after an instruction that met no fault.
-pub fn settle(s: &mut [u32; 20], r: &[u32; 17], p: Plan)
-    ensures { λ _. ⌜ now (s .exit) ≡ settle (now (s .entry)) (now (r .entry)) p ⌝ }
+// The slots after an instruction that met no fault: r has the registers, s the slots before it.
+pub fn settle(r: &mut [u32; 20], s: &[u32; 20], p: Plan)
+    ensures { λ _. ⌜ now (r .exit) ≡ settle (now (s .entry)) (now (r .entry)) p ⌝ }
 {
     let f = p.f;
     let old = s[18];
@@ -189,5 +201,5 @@ pub fn settle(s: &mut [u32; 20], r: &[u32; 17], p: Plan)
         sr,
         mode,
     );
-    *s = n;
+    *r = n;
 }

@@ -8,7 +8,7 @@ use bus::Flow;
 use plan::Plan;
 
 // How many places: three bits of the operation word, or the data register that they name.
-fn shift_count(r: &[u32; 17], op: u32) -> u32
+fn shift_count(r: &[u32; 20], op: u32) -> u32
     ensures { λ n. ⌜ n ≡ shift-count (now (r .entry)) op ⌝ }
 {
     let held = op / 32 % 2 == 1;
@@ -24,7 +24,7 @@ fn shift_place(
     n: u32,
     mode: u32,
     z: u32,
-    r: &mut [u32; 17],
+    r: &mut [u32; 20],
     mem: &[u8],
     op: u32,
     f: Flow,
@@ -40,7 +40,7 @@ fn shift_place(
 }
 
 // A data register, at any size.
-pub fn shift_register(r: &mut [u32; 17], mem: &[u8], op: u32, f: Flow) -> Plan
+pub fn shift_register(r: &mut [u32; 20], mem: &[u8], op: u32, f: Flow) -> Plan
     ensures { λ p. ⌜ p ≡ shift-register (now (r .entry)) (view-of (now (mem .entry))) op f .p ⌝ }
     ensures { λ p. ⌜ now (r .exit) ≡ shift-register (now (r .entry)) (view-of (now (mem .entry))) op f .r ⌝ }
 {
@@ -49,7 +49,7 @@ pub fn shift_register(r: &mut [u32; 17], mem: &[u8], op: u32, f: Flow) -> Plan
 }
 
 // A word in memory, one place.
-pub fn shift_memory(r: &mut [u32; 17], mem: &[u8], op: u32, f: Flow) -> Plan
+pub fn shift_memory(r: &mut [u32; 20], mem: &[u8], op: u32, f: Flow) -> Plan
     ensures { λ p. ⌜ p ≡ shift-memory (now (r .entry)) (view-of (now (mem .entry))) op f .p ⌝ }
     ensures { λ p. ⌜ now (r .exit) ≡ shift-memory (now (r .entry)) (view-of (now (mem .entry))) op f .r ⌝ }
 {
@@ -65,7 +65,7 @@ fn bit_size(op: u32) -> u32
 }
 
 // BTST, BCHG, BCLR, BSET of bit n; BTST writes nothing.
-fn bit_place(n: u32, r: &mut [u32; 17], mem: &[u8], op: u32, f: Flow) -> Plan
+fn bit_place(n: u32, r: &mut [u32; 20], mem: &[u8], op: u32, f: Flow) -> Plan
     ensures { λ p. ⌜ p ≡ bit-place n (now (r .entry)) (view-of (now (mem .entry))) op f .p ⌝ }
     ensures { λ p. ⌜ now (r .exit) ≡ bit-place n (now (r .entry)) (view-of (now (mem .entry))) op f .r ⌝ }
 {
@@ -83,7 +83,7 @@ fn bit_place(n: u32, r: &mut [u32; 17], mem: &[u8], op: u32, f: Flow) -> Plan
 }
 
 // The bit's number is in a data register.
-pub fn bit_dynamic(r: &mut [u32; 17], mem: &[u8], op: u32, f: Flow) -> Plan
+pub fn bit_dynamic(r: &mut [u32; 20], mem: &[u8], op: u32, f: Flow) -> Plan
     ensures { λ p. ⌜ p ≡ bit-dynamic (now (r .entry)) (view-of (now (mem .entry))) op f .p ⌝ }
     ensures { λ p. ⌜ now (r .exit) ≡ bit-dynamic (now (r .entry)) (view-of (now (mem .entry))) op f .r ⌝ }
 {
@@ -92,7 +92,7 @@ pub fn bit_dynamic(r: &mut [u32; 17], mem: &[u8], op: u32, f: Flow) -> Plan
 }
 
 // The bit's number is in the word after the operation word.
-pub fn bit_static(r: &mut [u32; 17], mem: &[u8], op: u32, f: Flow) -> Plan
+pub fn bit_static(r: &mut [u32; 20], mem: &[u8], op: u32, f: Flow) -> Plan
     ensures { λ p. ⌜ p ≡ bit-static (now (r .entry)) (view-of (now (mem .entry))) op f .p ⌝ }
     ensures { λ p. ⌜ now (r .exit) ≡ bit-static (now (r .entry)) (view-of (now (mem .entry))) op f .r ⌝ }
 {

@@ -52,9 +52,17 @@ module _ (v : View) (a k : ℕ) (f : Flow) where
   long-is h l b p e q = cc
 
 module _ (v : View) (a z : ℕ) (f : Flow) where
-  pub room-is : (r : Fetched) → r ≡ read-sized v a z 1 f → r .f ≡ room v a z f
-  unfolding room
-  room-is r e = cc
+  pub room-byte : (r : Fetched) → eqb z 0 ≡ true → r ≡ read-byte v a 1 f → r .f ≡ room v a z f
+  unfolding room read-sized by-size
+  room-byte r t e = cc
+
+  pub room-word : (r : Fetched) → eqb z 0 ≡ false → eqb z 1 ≡ true → r ≡ read-word v a 1 f → r .f ≡ room v a z f
+  unfolding room read-sized by-size
+  room-word r t u e = cc
+
+  pub room-long : (r : Fetched) → eqb z 0 ≡ false → eqb z 1 ≡ false → r ≡ read-long v a 1 f → r .f ≡ room v a z f
+  unfolding room read-sized by-size
+  room-long r t u e = cc
 
 module _ (v : View) (f : Flow) where
   pub next-word-is : (w : Fetched) (b : ℕ) (g : Flow) → w ≡ read-word v (f .pc) 18 f → b ≡ plus (f .pc) 2 → g ≡ moved (w .f) b → fetched (w .v) g ≡ next-word v f

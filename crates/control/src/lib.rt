@@ -49,7 +49,7 @@ pub fn branch(mem: &[u8], op: u32, f: Flow) -> Plan
 }
 
 // BSR.
-pub fn branch_subroutine(r: &mut [u32; 17], mem: &[u8], op: u32, f: Flow) -> Plan
+pub fn branch_subroutine(r: &mut [u32; 20], mem: &[u8], op: u32, f: Flow) -> Plan
     ensures { λ p. ⌜ p ≡ branch-subroutine (now (r .entry)) (view-of (now (mem .entry))) op f .p ⌝ }
     ensures { λ p. ⌜ now (r .exit) ≡ branch-subroutine (now (r .entry)) (view-of (now (mem .entry))) op f .r ⌝ }
 {
@@ -60,14 +60,14 @@ pub fn branch_subroutine(r: &mut [u32; 17], mem: &[u8], op: u32, f: Flow) -> Pla
 }
 
 // The counter of DBcc less 1: a word, and no more than a word of the register changes.
-fn counted(r: &[u32; 17], n: u32) -> u32
+fn counted(r: &[u32; 20], n: u32) -> u32
     ensures { λ c. ⌜ c ≡ counted (now (r .entry)) n ⌝ }
 {
     bits::cut(bits::minus(operand::get(r, n), 1) as u64, 1)
 }
 
 // DBcc.
-pub fn decrement_branch(r: &mut [u32; 17], mem: &[u8], op: u32, f: Flow) -> Plan
+pub fn decrement_branch(r: &mut [u32; 20], mem: &[u8], op: u32, f: Flow) -> Plan
     ensures { λ p. ⌜ p ≡ decrement-branch (now (r .entry)) (view-of (now (mem .entry))) op f .p ⌝ }
     ensures { λ p. ⌜ now (r .exit) ≡ decrement-branch (now (r .entry)) (view-of (now (mem .entry))) op f .r ⌝ }
 {
@@ -88,7 +88,7 @@ pub fn decrement_branch(r: &mut [u32; 17], mem: &[u8], op: u32, f: Flow) -> Plan
 }
 
 // Scc. The flags stay as they are.
-pub fn set_condition(r: &mut [u32; 17], mem: &[u8], op: u32, f: Flow) -> Plan
+pub fn set_condition(r: &mut [u32; 20], mem: &[u8], op: u32, f: Flow) -> Plan
     ensures { λ p. ⌜ p ≡ set-condition (now (r .entry)) (view-of (now (mem .entry))) op f .p ⌝ }
     ensures { λ p. ⌜ now (r .exit) ≡ set-condition (now (r .entry)) (view-of (now (mem .entry))) op f .r ⌝ }
 {
@@ -103,7 +103,7 @@ pub fn set_condition(r: &mut [u32; 17], mem: &[u8], op: u32, f: Flow) -> Plan
 }
 
 // JMP.
-pub fn jump_to(r: &[u32; 17], mem: &[u8], op: u32, f: Flow) -> Plan
+pub fn jump_to(r: &[u32; 20], mem: &[u8], op: u32, f: Flow) -> Plan
     ensures { λ p. ⌜ p ≡ jump-plan (now (r .entry)) (view-of (now (mem .entry))) op f ⌝ }
 {
     let q = operand::locate(r, mem, op / 8 % 8, op % 8, 2, f);
@@ -112,7 +112,7 @@ pub fn jump_to(r: &[u32; 17], mem: &[u8], op: u32, f: Flow) -> Plan
 }
 
 // JSR. The address is formed before A7 falls.
-pub fn jump_subroutine(r: &mut [u32; 17], mem: &[u8], op: u32, f: Flow) -> Plan
+pub fn jump_subroutine(r: &mut [u32; 20], mem: &[u8], op: u32, f: Flow) -> Plan
     ensures { λ p. ⌜ p ≡ jump-subroutine (now (r .entry)) (view-of (now (mem .entry))) op f .p ⌝ }
     ensures { λ p. ⌜ now (r .exit) ≡ jump-subroutine (now (r .entry)) (view-of (now (mem .entry))) op f .r ⌝ }
 {
@@ -130,7 +130,7 @@ pub fn no_operation(f: Flow) -> Plan
 }
 
 // RTR. Of the word only the flags are taken.
-pub fn return_restore(r: &mut [u32; 17], mem: &[u8], op: u32, f: Flow) -> Plan
+pub fn return_restore(r: &mut [u32; 20], mem: &[u8], op: u32, f: Flow) -> Plan
     ensures { λ p. ⌜ p ≡ return-restore (now (r .entry)) (view-of (now (mem .entry))) op f .p ⌝ }
     ensures { λ p. ⌜ now (r .exit) ≡ return-restore (now (r .entry)) (view-of (now (mem .entry))) op f .r ⌝ }
 {
@@ -142,7 +142,7 @@ pub fn return_restore(r: &mut [u32; 17], mem: &[u8], op: u32, f: Flow) -> Plan
 }
 
 // RTS.
-pub fn return_subroutine(r: &mut [u32; 17], mem: &[u8], op: u32, f: Flow) -> Plan
+pub fn return_subroutine(r: &mut [u32; 20], mem: &[u8], op: u32, f: Flow) -> Plan
     ensures { λ p. ⌜ p ≡ return-subroutine (now (r .entry)) (view-of (now (mem .entry))) op f .p ⌝ }
     ensures { λ p. ⌜ now (r .exit) ≡ return-subroutine (now (r .entry)) (view-of (now (mem .entry))) op f .r ⌝ }
 {

@@ -16,7 +16,7 @@ fn refused(vec: u32, f: Flow) -> Plan
 }
 
 // Kinds 0 to 2: illegal, and words that begin 1010 and 1111.
-fn refused_kind(j: u32, r: &[u32; 17], mem: &[u8], op: u32, f: Flow) -> Plan
+fn refused_kind(j: u32, r: &[u32; 20], mem: &[u8], op: u32, f: Flow) -> Plan
     ensures { λ p. ⌜ p ≡ refused-kind j (now (r .entry)) (view-of (now (mem .entry))) op f .p ⌝ }
     ensures { λ p. ⌜ now (r .entry) ≡ refused-kind j (now (r .entry)) (view-of (now (mem .entry))) op f .r ⌝ }
 {
@@ -28,7 +28,7 @@ fn refused_kind(j: u32, r: &[u32; 17], mem: &[u8], op: u32, f: Flow) -> Plan
 }
 
 // Kinds 3 to 17.
-fn movement_kind(j: u32, r: &mut [u32; 17], mem: &[u8], op: u32, f: Flow) -> Plan
+fn movement_kind(j: u32, r: &mut [u32; 20], mem: &[u8], op: u32, f: Flow) -> Plan
     ensures { λ p. ⌜ p ≡ movement-kind j (now (r .entry)) (view-of (now (mem .entry))) op f .p ⌝ }
     ensures { λ p. ⌜ now (r .exit) ≡ movement-kind j (now (r .entry)) (view-of (now (mem .entry))) op f .r ⌝ }
 {
@@ -52,7 +52,7 @@ fn movement_kind(j: u32, r: &mut [u32; 17], mem: &[u8], op: u32, f: Flow) -> Pla
 }
 
 // Kinds 18 to 45.
-fn integer_kind(j: u32, r: &mut [u32; 17], mem: &[u8], op: u32, f: Flow) -> Plan
+fn integer_kind(j: u32, r: &mut [u32; 20], mem: &[u8], op: u32, f: Flow) -> Plan
     ensures { λ p. ⌜ p ≡ integer-kind j (now (r .entry)) (view-of (now (mem .entry))) op f .p ⌝ }
     ensures { λ p. ⌜ now (r .exit) ≡ integer-kind j (now (r .entry)) (view-of (now (mem .entry))) op f .r ⌝ }
 {
@@ -89,7 +89,7 @@ fn integer_kind(j: u32, r: &mut [u32; 17], mem: &[u8], op: u32, f: Flow) -> Plan
 }
 
 // Kinds 46 to 61: logical, shift and rotate, bit, decimal.
-fn logical_kind(j: u32, r: &mut [u32; 17], mem: &[u8], op: u32, f: Flow) -> Plan
+fn logical_kind(j: u32, r: &mut [u32; 20], mem: &[u8], op: u32, f: Flow) -> Plan
     ensures { λ p. ⌜ p ≡ logical-kind j (now (r .entry)) (view-of (now (mem .entry))) op f .p ⌝ }
     ensures { λ p. ⌜ now (r .exit) ≡ logical-kind j (now (r .entry)) (view-of (now (mem .entry))) op f .r ⌝ }
 {
@@ -114,7 +114,7 @@ fn logical_kind(j: u32, r: &mut [u32; 17], mem: &[u8], op: u32, f: Flow) -> Plan
 }
 
 // Kinds 62 to 71.
-fn control_kind(j: u32, r: &mut [u32; 17], mem: &[u8], op: u32, f: Flow) -> Plan
+fn control_kind(j: u32, r: &mut [u32; 20], mem: &[u8], op: u32, f: Flow) -> Plan
     ensures { λ p. ⌜ p ≡ control-kind j (now (r .entry)) (view-of (now (mem .entry))) op f .p ⌝ }
     ensures { λ p. ⌜ now (r .exit) ≡ control-kind j (now (r .entry)) (view-of (now (mem .entry))) op f .r ⌝ }
 {
@@ -133,7 +133,7 @@ fn control_kind(j: u32, r: &mut [u32; 17], mem: &[u8], op: u32, f: Flow) -> Plan
 }
 
 // Kinds 72 to 88.
-fn system_kind(j: u32, r: &mut [u32; 17], mem: &[u8], op: u32, f: Flow) -> Plan
+fn system_kind(j: u32, r: &mut [u32; 20], mem: &[u8], op: u32, f: Flow) -> Plan
     ensures { λ p. ⌜ p ≡ system-kind j (now (r .entry)) (view-of (now (mem .entry))) op f .p ⌝ }
     ensures { λ p. ⌜ now (r .exit) ≡ system-kind j (now (r .entry)) (view-of (now (mem .entry))) op f .r ⌝ }
 {
@@ -159,7 +159,7 @@ fn system_kind(j: u32, r: &mut [u32; 17], mem: &[u8], op: u32, f: Flow) -> Plan
 }
 
 // The function of a kind.
-fn dispatch(k: u32, r: &mut [u32; 17], mem: &[u8], op: u32, f: Flow) -> Plan
+fn dispatch(k: u32, r: &mut [u32; 20], mem: &[u8], op: u32, f: Flow) -> Plan
     ensures { λ p. ⌜ p ≡ dispatch k (now (r .entry)) (view-of (now (mem .entry))) op f .p ⌝ }
     ensures { λ p. ⌜ now (r .exit) ≡ dispatch k (now (r .entry)) (view-of (now (mem .entry))) op f .r ⌝ }
 {
@@ -187,7 +187,7 @@ fn dispatch(k: u32, r: &mut [u32; 17], mem: &[u8], op: u32, f: Flow) -> Plan
 }
 
 // In user state a privileged instruction is refused.
-fn as_user(k: u32, r: &mut [u32; 17], mem: &[u8], op: u32, f: Flow) -> Plan
+fn as_user(k: u32, r: &mut [u32; 20], mem: &[u8], op: u32, f: Flow) -> Plan
     ensures { λ p. ⌜ p ≡ as-user k (now (r .entry)) (view-of (now (mem .entry))) op f .p ⌝ }
     ensures { λ p. ⌜ now (r .exit) ≡ as-user k (now (r .entry)) (view-of (now (mem .entry))) op f .r ⌝ }
 {
@@ -199,7 +199,7 @@ fn as_user(k: u32, r: &mut [u32; 17], mem: &[u8], op: u32, f: Flow) -> Plan
 }
 
 // The operation word alone decides illegal and privileged.
-pub fn execute(r: &mut [u32; 17], mem: &[u8], op: u32, f: Flow) -> Plan
+pub fn execute(r: &mut [u32; 20], mem: &[u8], op: u32, f: Flow) -> Plan
     ensures { λ p. ⌜ p ≡ execute (now (r .entry)) (view-of (now (mem .entry))) op f .p ⌝ }
     ensures { λ p. ⌜ now (r .exit) ≡ execute (now (r .entry)) (view-of (now (mem .entry))) op f .r ⌝ }
 {

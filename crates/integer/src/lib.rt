@@ -91,7 +91,7 @@ fn only_flags(a: Flagged, f: Flow) -> Plan
 }
 
 // A result and its flags, to register n.
-fn into_register(r: &mut [u32; 17], n: u32, z: u32, a: Flagged, f: Flow) -> Plan
+fn into_register(r: &mut [u32; 20], n: u32, z: u32, a: Flagged, f: Flow) -> Plan
     ensures { λ p. ⌜ p ≡ into-register (now (r .entry)) n z a f .p ⌝ }
     ensures { λ p. ⌜ now (r .exit) ≡ into-register (now (r .entry)) n z a f .r ⌝ }
 {
@@ -100,7 +100,7 @@ fn into_register(r: &mut [u32; 17], n: u32, z: u32, a: Flagged, f: Flow) -> Plan
 }
 
 // ADD, SUB, AND, OR, CMP <ea>,Dn.
-pub fn to_register(which: u32, r: &mut [u32; 17], mem: &[u8], op: u32, f: Flow) -> Plan
+pub fn to_register(which: u32, r: &mut [u32; 20], mem: &[u8], op: u32, f: Flow) -> Plan
     ensures { λ p. ⌜ p ≡ to-register which (now (r .entry)) (view-of (now (mem .entry))) op f .p ⌝ }
     ensures { λ p. ⌜ now (r .exit) ≡ to-register which (now (r .entry)) (view-of (now (mem .entry))) op f .r ⌝ }
 {
@@ -113,7 +113,7 @@ pub fn to_register(which: u32, r: &mut [u32; 17], mem: &[u8], op: u32, f: Flow) 
 }
 
 // A source b onto the operand of the operation word's mode.
-fn onto(which: u32, b: u32, r: &mut [u32; 17], mem: &[u8], op: u32, f: Flow) -> Plan
+fn onto(which: u32, b: u32, r: &mut [u32; 20], mem: &[u8], op: u32, f: Flow) -> Plan
     ensures { λ p. ⌜ p ≡ onto which b (now (r .entry)) (view-of (now (mem .entry))) op f .p ⌝ }
     ensures { λ p. ⌜ now (r .exit) ≡ onto which b (now (r .entry)) (view-of (now (mem .entry))) op f .r ⌝ }
 {
@@ -125,7 +125,7 @@ fn onto(which: u32, b: u32, r: &mut [u32; 17], mem: &[u8], op: u32, f: Flow) -> 
 }
 
 // ADD, SUB, AND, OR, EOR Dn,<ea>.
-pub fn to_memory(which: u32, r: &mut [u32; 17], mem: &[u8], op: u32, f: Flow) -> Plan
+pub fn to_memory(which: u32, r: &mut [u32; 20], mem: &[u8], op: u32, f: Flow) -> Plan
     ensures { λ p. ⌜ p ≡ to-memory which (now (r .entry)) (view-of (now (mem .entry))) op f .p ⌝ }
     ensures { λ p. ⌜ now (r .exit) ≡ to-memory which (now (r .entry)) (view-of (now (mem .entry))) op f .r ⌝ }
 {
@@ -134,7 +134,7 @@ pub fn to_memory(which: u32, r: &mut [u32; 17], mem: &[u8], op: u32, f: Flow) ->
 }
 
 // ADDI, SUBI, ANDI, ORI, EORI.
-pub fn immediate_to(which: u32, r: &mut [u32; 17], mem: &[u8], op: u32, f: Flow) -> Plan
+pub fn immediate_to(which: u32, r: &mut [u32; 20], mem: &[u8], op: u32, f: Flow) -> Plan
     ensures { λ p. ⌜ p ≡ immediate-to which (now (r .entry)) (view-of (now (mem .entry))) op f .p ⌝ }
     ensures { λ p. ⌜ now (r .exit) ≡ immediate-to which (now (r .entry)) (view-of (now (mem .entry))) op f .r ⌝ }
 {
@@ -144,7 +144,7 @@ pub fn immediate_to(which: u32, r: &mut [u32; 17], mem: &[u8], op: u32, f: Flow)
 }
 
 // CMPI.
-pub fn compare_immediate(r: &mut [u32; 17], mem: &[u8], op: u32, f: Flow) -> Plan
+pub fn compare_immediate(r: &mut [u32; 20], mem: &[u8], op: u32, f: Flow) -> Plan
     ensures { λ p. ⌜ p ≡ compare-immediate (now (r .entry)) (view-of (now (mem .entry))) op f .p ⌝ }
     ensures { λ p. ⌜ now (r .exit) ≡ compare-immediate (now (r .entry)) (view-of (now (mem .entry))) op f .r ⌝ }
 {
@@ -157,7 +157,7 @@ pub fn compare_immediate(r: &mut [u32; 17], mem: &[u8], op: u32, f: Flow) -> Pla
 }
 
 // ADDQ, SUBQ to a place that is no address register.
-pub fn quick_to(which: u32, r: &mut [u32; 17], mem: &[u8], op: u32, f: Flow) -> Plan
+pub fn quick_to(which: u32, r: &mut [u32; 20], mem: &[u8], op: u32, f: Flow) -> Plan
     ensures { λ p. ⌜ p ≡ quick-to which (now (r .entry)) (view-of (now (mem .entry))) op f .p ⌝ }
     ensures { λ p. ⌜ now (r .exit) ≡ quick-to which (now (r .entry)) (view-of (now (mem .entry))) op f .r ⌝ }
 {
@@ -165,7 +165,7 @@ pub fn quick_to(which: u32, r: &mut [u32; 17], mem: &[u8], op: u32, f: Flow) -> 
 }
 
 // ADDQ, SUBQ to An: 32 bits at any size, and no flag.
-pub fn quick_address(which: u32, r: &mut [u32; 17], op: u32, f: Flow) -> Plan
+pub fn quick_address(which: u32, r: &mut [u32; 20], op: u32, f: Flow) -> Plan
     ensures { λ p. ⌜ p ≡ nothing f ⌝ }
     ensures { λ p. ⌜ now (r .exit) ≡ quick-registers which (now (r .entry)) op ⌝ }
 {
@@ -176,7 +176,7 @@ pub fn quick_address(which: u32, r: &mut [u32; 17], op: u32, f: Flow) -> Plan
 }
 
 // ADDA, SUBA: the address register as the source's step left it.
-pub fn to_address(which: u32, r: &mut [u32; 17], mem: &[u8], op: u32, f: Flow) -> Plan
+pub fn to_address(which: u32, r: &mut [u32; 20], mem: &[u8], op: u32, f: Flow) -> Plan
     ensures { λ p. ⌜ p ≡ to-address which (now (r .entry)) (view-of (now (mem .entry))) op f .p ⌝ }
     ensures { λ p. ⌜ now (r .exit) ≡ to-address which (now (r .entry)) (view-of (now (mem .entry))) op f .r ⌝ }
 {
@@ -191,7 +191,7 @@ pub fn to_address(which: u32, r: &mut [u32; 17], mem: &[u8], op: u32, f: Flow) -
 }
 
 // CMPA: 32 bits, the address register as the source's step left it.
-pub fn compare_address(r: &mut [u32; 17], mem: &[u8], op: u32, f: Flow) -> Plan
+pub fn compare_address(r: &mut [u32; 20], mem: &[u8], op: u32, f: Flow) -> Plan
     ensures { λ p. ⌜ p ≡ compare-address (now (r .entry)) (view-of (now (mem .entry))) op f .p ⌝ }
     ensures { λ p. ⌜ now (r .exit) ≡ compare-address (now (r .entry)) (view-of (now (mem .entry))) op f .r ⌝ }
 {
@@ -204,7 +204,7 @@ pub fn compare_address(r: &mut [u32; 17], mem: &[u8], op: u32, f: Flow) -> Plan
 }
 
 // ADDX, SUBX, ABCD, SBCD: Dy,Dx or -(Ay),-(Ax).
-pub fn paired(which: u32, r: &mut [u32; 17], mem: &[u8], op: u32, f: Flow) -> Plan
+pub fn paired(which: u32, r: &mut [u32; 20], mem: &[u8], op: u32, f: Flow) -> Plan
     ensures { λ p. ⌜ p ≡ paired which (now (r .entry)) (view-of (now (mem .entry))) op f .p ⌝ }
     ensures { λ p. ⌜ now (r .exit) ≡ paired which (now (r .entry)) (view-of (now (mem .entry))) op f .r ⌝ }
 {
@@ -219,7 +219,7 @@ pub fn paired(which: u32, r: &mut [u32; 17], mem: &[u8], op: u32, f: Flow) -> Pl
 }
 
 // CMPM (Ay)+,(Ax)+.
-pub fn compare_memory(r: &mut [u32; 17], mem: &[u8], op: u32, f: Flow) -> Plan
+pub fn compare_memory(r: &mut [u32; 20], mem: &[u8], op: u32, f: Flow) -> Plan
     ensures { λ p. ⌜ p ≡ compare-memory (now (r .entry)) (view-of (now (mem .entry))) op f .p ⌝ }
     ensures { λ p. ⌜ now (r .exit) ≡ compare-memory (now (r .entry)) (view-of (now (mem .entry))) op f .r ⌝ }
 {
@@ -232,7 +232,7 @@ pub fn compare_memory(r: &mut [u32; 17], mem: &[u8], op: u32, f: Flow) -> Plan
 }
 
 // The operand of the operation word's mode, alone.
-fn alone(which: u32, z: u32, r: &mut [u32; 17], mem: &[u8], op: u32, f: Flow) -> Plan
+fn alone(which: u32, z: u32, r: &mut [u32; 20], mem: &[u8], op: u32, f: Flow) -> Plan
     ensures { λ p. ⌜ p ≡ alone which z (now (r .entry)) (view-of (now (mem .entry))) op f .p ⌝ }
     ensures { λ p. ⌜ now (r .exit) ≡ alone which z (now (r .entry)) (view-of (now (mem .entry))) op f .r ⌝ }
 {
@@ -243,7 +243,7 @@ fn alone(which: u32, z: u32, r: &mut [u32; 17], mem: &[u8], op: u32, f: Flow) ->
 }
 
 // NEG, NEGX, NOT, CLR, NBCD, TAS. TAS, a byte, has 3 for its size.
-pub fn unary(which: u32, r: &mut [u32; 17], mem: &[u8], op: u32, f: Flow) -> Plan
+pub fn unary(which: u32, r: &mut [u32; 20], mem: &[u8], op: u32, f: Flow) -> Plan
     ensures { λ p. ⌜ p ≡ unary which (now (r .entry)) (view-of (now (mem .entry))) op f .p ⌝ }
     ensures { λ p. ⌜ now (r .exit) ≡ unary which (now (r .entry)) (view-of (now (mem .entry))) op f .r ⌝ }
 {
@@ -251,7 +251,7 @@ pub fn unary(which: u32, r: &mut [u32; 17], mem: &[u8], op: u32, f: Flow) -> Pla
 }
 
 // EXT: the operation word's mode is 0, a data register.
-pub fn extend(r: &mut [u32; 17], mem: &[u8], op: u32, f: Flow) -> Plan
+pub fn extend(r: &mut [u32; 20], mem: &[u8], op: u32, f: Flow) -> Plan
     ensures { λ p. ⌜ p ≡ extend (now (r .entry)) (view-of (now (mem .entry))) op f .p ⌝ }
     ensures { λ p. ⌜ now (r .exit) ≡ extend (now (r .entry)) (view-of (now (mem .entry))) op f .r ⌝ }
 {
@@ -259,7 +259,7 @@ pub fn extend(r: &mut [u32; 17], mem: &[u8], op: u32, f: Flow) -> Plan
 }
 
 // TST.
-pub fn test(r: &mut [u32; 17], mem: &[u8], op: u32, f: Flow) -> Plan
+pub fn test(r: &mut [u32; 20], mem: &[u8], op: u32, f: Flow) -> Plan
     ensures { λ p. ⌜ p ≡ test (now (r .entry)) (view-of (now (mem .entry))) op f .p ⌝ }
     ensures { λ p. ⌜ now (r .exit) ≡ test (now (r .entry)) (view-of (now (mem .entry))) op f .r ⌝ }
 {
@@ -270,7 +270,7 @@ pub fn test(r: &mut [u32; 17], mem: &[u8], op: u32, f: Flow) -> Plan
 }
 
 // MULS, MULU <ea>,Dn.
-pub fn multiply(which: u32, r: &mut [u32; 17], mem: &[u8], op: u32, f: Flow) -> Plan
+pub fn multiply(which: u32, r: &mut [u32; 20], mem: &[u8], op: u32, f: Flow) -> Plan
     ensures { λ p. ⌜ p ≡ multiply which (now (r .entry)) (view-of (now (mem .entry))) op f .p ⌝ }
     ensures { λ p. ⌜ now (r .exit) ≡ multiply which (now (r .entry)) (view-of (now (mem .entry))) op f .r ⌝ }
 {
@@ -282,7 +282,7 @@ pub fn multiply(which: u32, r: &mut [u32; 17], mem: &[u8], op: u32, f: Flow) -> 
 }
 
 // DIVS, DIVU: a zero divisor traps, with the flags set and the source's step kept.
-pub fn divide(which: u32, r: &mut [u32; 17], mem: &[u8], op: u32, f: Flow) -> Plan
+pub fn divide(which: u32, r: &mut [u32; 20], mem: &[u8], op: u32, f: Flow) -> Plan
     ensures { λ p. ⌜ p ≡ divide which (now (r .entry)) (view-of (now (mem .entry))) op f .p ⌝ }
     ensures { λ p. ⌜ now (r .exit) ≡ divide which (now (r .entry)) (view-of (now (mem .entry))) op f .r ⌝ }
 {

@@ -181,11 +181,11 @@ fn step_taken(
     let size = twenty(slots);
     let long = bytes(memory);
     let old = *slots;
-    let e = step::one_step(slots, memory, log, level, vector);
-    let m = record::put_record(journal, mark, &old, slots, memory, log, e.n);
+    let e = step::one_step(slots, &old, memory, log, level, vector);
+    let next = record::put_record(journal, mark, &old, slots, memory, log, e.n);
     StepAnswer {
         number: 0,
-        mark: m,
+        mark: next,
         event: e.event,
     }
 }

@@ -62,7 +62,7 @@ fn next_spot(w: Way, d: Spot, f: Flow) -> Spot
 }
 
 // Register k is loaded if the list has it; a word is carried on to 32 bits.
-fn load_one(r: &mut [u32; 17], mem: &[u8], k: u32, w: Way, d: Spot) -> Spot
+fn load_one(r: &mut [u32; 20], mem: &[u8], k: u32, w: Way, d: Spot) -> Spot
     ensures { λ e. ⌜ e ≡ load-one (view-of (now (mem .entry))) k w (record { x = now (r .entry); d = d }) .d ⌝ }
     ensures { λ e. ⌜ now (r .exit) ≡ load-one (view-of (now (mem .entry))) k w (record { x = now (r .entry); d = d }) .x ⌝ }
 {
@@ -77,7 +77,7 @@ fn load_one(r: &mut [u32; 17], mem: &[u8], k: u32, w: Way, d: Spot) -> Spot
     next_spot(w, d, f)
 }
 
-fn load_list(r: &mut [u32; 17], mem: &[u8], k: u32, w: Way, f: Flow) -> Spot
+fn load_list(r: &mut [u32; 20], mem: &[u8], k: u32, w: Way, f: Flow) -> Spot
     ensures { λ e. ⌜ e ≡ load-list (now (r .entry)) (view-of (now (mem .entry))) k w f .d ⌝ }
     ensures { λ e. ⌜ now (r .exit) ≡ load-list (now (r .entry)) (view-of (now (mem .entry))) k w f .x ⌝ }
 {
@@ -91,7 +91,7 @@ fn load_list(r: &mut [u32; 17], mem: &[u8], k: u32, w: Way, f: Flow) -> Spot
 }
 
 // The address is formed once, before any load. (An)+, the only mode here that steps, leaves An at the final address.
-pub fn movem_to_registers(r: &mut [u32; 17], mem: &[u8], op: u32, f: Flow) -> Plan
+pub fn movem_to_registers(r: &mut [u32; 20], mem: &[u8], op: u32, f: Flow) -> Plan
     ensures { λ p. ⌜ p ≡ movem-to-registers (now (r .entry)) (view-of (now (mem .entry))) op f .p ⌝ }
     ensures { λ p. ⌜ now (r .exit) ≡ movem-to-registers (now (r .entry)) (view-of (now (mem .entry))) op f .r ⌝ }
 {
@@ -128,7 +128,7 @@ fn ones_of(list: u32) -> u32
 }
 
 // MOVEM to -(An): the plan has An's first value, the bank its last.
-fn movem_down(r: &mut [u32; 17], list: u32, op: u32, f: Flow) -> Plan
+fn movem_down(r: &mut [u32; 20], list: u32, op: u32, f: Flow) -> Plan
     ensures { λ p. ⌜ p ≡ movem-down (now (r .entry)) list op f .p ⌝ }
     ensures { λ p. ⌜ now (r .exit) ≡ movem-down (now (r .entry)) list op f .r ⌝ }
 {
@@ -139,7 +139,7 @@ fn movem_down(r: &mut [u32; 17], list: u32, op: u32, f: Flow) -> Plan
     plan::writing(6 + op / 64 % 2, a, list % 65536 + 65536 * i, f)
 }
 
-pub fn movem_to_memory(r: &mut [u32; 17], mem: &[u8], op: u32, f: Flow) -> Plan
+pub fn movem_to_memory(r: &mut [u32; 20], mem: &[u8], op: u32, f: Flow) -> Plan
     ensures { λ p. ⌜ p ≡ movem-to-memory (now (r .entry)) (view-of (now (mem .entry))) op f .p ⌝ }
     ensures { λ p. ⌜ now (r .exit) ≡ movem-to-memory (now (r .entry)) (view-of (now (mem .entry))) op f .r ⌝ }
 {
@@ -240,7 +240,7 @@ fn mirrored(x: u32) -> u32
 }
 
 // A plan's block as it is stored, always upward: for -(An) from where An ended.
-fn put_way(r: &[u32; 17], p: Plan) -> Way
+fn put_way(r: &[u32; 20], p: Plan) -> Way
     ensures { λ w. ⌜ w ≡ put-way (now (r .entry)) p ⌝ }
 {
     let z = 1 + p.z % 2;
@@ -257,7 +257,7 @@ fn put_way(r: &[u32; 17], p: Plan) -> Way
 }
 
 // Register i as MOVEM stores it: the one that -(An) lowered, `own`, by its first value.
-fn stored(r: &[u32; 17], first: u32, own: u32, i: u32) -> u32
+fn stored(r: &[u32; 20], first: u32, own: u32, i: u32) -> u32
     ensures { λ v. ⌜ v ≡ stored (now (r .entry)) first own i ⌝ }
 {
     let same = i == own;
@@ -280,7 +280,7 @@ fn byte_of(v: u32, j: u32) -> u32
 }
 
 // What a block has at place k of its list.
-fn part_of(r: &[u32; 17], p: Plan, k: u32) -> u32
+fn part_of(r: &[u32; 20], p: Plan, k: u32) -> u32
     ensures { λ v. ⌜ v ≡ part-of (now (r .entry)) p k ⌝ }
 {
     let bytes = 8 <= p.z;
@@ -295,7 +295,7 @@ fn store_part(
     memory: &mut [u8],
     log: &mut [u64],
     n: usize,
-    r: &[u32; 17],
+    r: &[u32; 20],
     p: Plan,
     w: Way,
     d: Spot,
@@ -313,7 +313,7 @@ fn store_part(
 }
 
 // The writes of a block, noted; how many entries the log then has.
-pub fn block_store(memory: &mut [u8], log: &mut [u64], n: usize, r: &[u32; 17], p: Plan) -> usize
+pub fn block_store(memory: &mut [u8], log: &mut [u64], n: usize, r: &[u32; 20], p: Plan) -> usize
     requires { ⌜ LogOk (now memory) (now log) n × (n + 64 ≤ length (now log)) ⌝ }
     ensures memory { λ _. ⌜ now (memory .exit) ≡ block-put (now (memory .entry)) (now (r .entry)) p ⌝ }
     ensures noted { λ m. ⌜ Noted (now (memory .entry)) (now (log .entry)) n 64 (now (memory .exit)) (now (log .exit)) m ⌝ }

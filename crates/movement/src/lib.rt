@@ -31,7 +31,7 @@ fn move_size(op: u32) -> u32
 // The source's value, and the destination's place with its register stepped. All extension words come before the source is read, and
 // the source's step before the destination's address. The source is read before the destination's step: MOVE.L A0,-(A0) stores the
 // first value.
-fn move_operands(r: &mut [u32; 17], mem: &[u8], op: u32, z: u32, f: Flow) -> Both
+fn move_operands(r: &mut [u32; 20], mem: &[u8], op: u32, z: u32, f: Flow) -> Both
     ensures { λ b. ⌜ b ≡ move-operands (now (r .entry)) (view-of (now (mem .entry))) op z f .b ⌝ }
     ensures { λ b. ⌜ now (r .exit) ≡ move-operands (now (r .entry)) (view-of (now (mem .entry))) op z f .r ⌝ }
 {
@@ -53,7 +53,7 @@ fn move_operands(r: &mut [u32; 17], mem: &[u8], op: u32, z: u32, f: Flow) -> Bot
     Both { v: w.v, q: d }
 }
 
-pub fn move_data(r: &mut [u32; 17], mem: &[u8], op: u32, f: Flow) -> Plan
+pub fn move_data(r: &mut [u32; 20], mem: &[u8], op: u32, f: Flow) -> Plan
     ensures { λ p. ⌜ p ≡ move-data (now (r .entry)) (view-of (now (mem .entry))) op f .p ⌝ }
     ensures { λ p. ⌜ now (r .exit) ≡ move-data (now (r .entry)) (view-of (now (mem .entry))) op f .r ⌝ }
 {
@@ -63,7 +63,7 @@ pub fn move_data(r: &mut [u32; 17], mem: &[u8], op: u32, f: Flow) -> Plan
     plan::finish(r, q, z, alu::moved(b.v, f.sr, z))
 }
 
-pub fn move_address(r: &mut [u32; 17], mem: &[u8], op: u32, f: Flow) -> Plan
+pub fn move_address(r: &mut [u32; 20], mem: &[u8], op: u32, f: Flow) -> Plan
     ensures { λ p. ⌜ p ≡ move-address (now (r .entry)) (view-of (now (mem .entry))) op f .p ⌝ }
     ensures { λ p. ⌜ now (r .exit) ≡ move-address (now (r .entry)) (view-of (now (mem .entry))) op f .r ⌝ }
 {
@@ -74,7 +74,7 @@ pub fn move_address(r: &mut [u32; 17], mem: &[u8], op: u32, f: Flow) -> Plan
     plan::nothing(g)
 }
 
-pub fn move_quick(r: &mut [u32; 17], mem: &[u8], op: u32, f: Flow) -> Plan
+pub fn move_quick(r: &mut [u32; 20], mem: &[u8], op: u32, f: Flow) -> Plan
     ensures { λ p. ⌜ p ≡ move-quick (now (r .entry)) (view-of (now (mem .entry))) op f .p ⌝ }
     ensures { λ p. ⌜ now (r .exit) ≡ move-quick (now (r .entry)) (view-of (now (mem .entry))) op f .r ⌝ }
 {
@@ -83,7 +83,7 @@ pub fn move_quick(r: &mut [u32; 17], mem: &[u8], op: u32, f: Flow) -> Plan
     plan::nothing(plan::flagged(f, a.c))
 }
 
-pub fn load_address(r: &mut [u32; 17], mem: &[u8], op: u32, f: Flow) -> Plan
+pub fn load_address(r: &mut [u32; 20], mem: &[u8], op: u32, f: Flow) -> Plan
     ensures { λ p. ⌜ p ≡ load-address (now (r .entry)) (view-of (now (mem .entry))) op f .p ⌝ }
     ensures { λ p. ⌜ now (r .exit) ≡ load-address (now (r .entry)) (view-of (now (mem .entry))) op f .r ⌝ }
 {
@@ -94,7 +94,7 @@ pub fn load_address(r: &mut [u32; 17], mem: &[u8], op: u32, f: Flow) -> Plan
 }
 
 // The address is formed before A7 falls.
-pub fn push_address(r: &mut [u32; 17], mem: &[u8], op: u32, f: Flow) -> Plan
+pub fn push_address(r: &mut [u32; 20], mem: &[u8], op: u32, f: Flow) -> Plan
     ensures { λ p. ⌜ p ≡ push-address (now (r .entry)) (view-of (now (mem .entry))) op f .p ⌝ }
     ensures { λ p. ⌜ now (r .exit) ≡ push-address (now (r .entry)) (view-of (now (mem .entry))) op f .r ⌝ }
 {
@@ -104,7 +104,7 @@ pub fn push_address(r: &mut [u32; 17], mem: &[u8], op: u32, f: Flow) -> Plan
 }
 
 // EXG of registers i and j.
-fn exchange(r: &mut [u32; 17], i: u32, j: u32, f: Flow) -> Plan
+fn exchange(r: &mut [u32; 20], i: u32, j: u32, f: Flow) -> Plan
     ensures { λ p. ⌜ p ≡ exchange (now (r .entry)) i j f .p ⌝ }
     ensures { λ p. ⌜ now (r .exit) ≡ exchange (now (r .entry)) i j f .r ⌝ }
 {
@@ -115,28 +115,28 @@ fn exchange(r: &mut [u32; 17], i: u32, j: u32, f: Flow) -> Plan
     plan::nothing(f)
 }
 
-pub fn exchange_data(r: &mut [u32; 17], mem: &[u8], op: u32, f: Flow) -> Plan
+pub fn exchange_data(r: &mut [u32; 20], mem: &[u8], op: u32, f: Flow) -> Plan
     ensures { λ p. ⌜ p ≡ exchange-data (now (r .entry)) (view-of (now (mem .entry))) op f .p ⌝ }
     ensures { λ p. ⌜ now (r .exit) ≡ exchange-data (now (r .entry)) (view-of (now (mem .entry))) op f .r ⌝ }
 {
     exchange(r, op / 512 % 8, op % 8, f)
 }
 
-pub fn exchange_address(r: &mut [u32; 17], mem: &[u8], op: u32, f: Flow) -> Plan
+pub fn exchange_address(r: &mut [u32; 20], mem: &[u8], op: u32, f: Flow) -> Plan
     ensures { λ p. ⌜ p ≡ exchange-address (now (r .entry)) (view-of (now (mem .entry))) op f .p ⌝ }
     ensures { λ p. ⌜ now (r .exit) ≡ exchange-address (now (r .entry)) (view-of (now (mem .entry))) op f .r ⌝ }
 {
     exchange(r, 8 + op / 512 % 8, 8 + op % 8, f)
 }
 
-pub fn exchange_both(r: &mut [u32; 17], mem: &[u8], op: u32, f: Flow) -> Plan
+pub fn exchange_both(r: &mut [u32; 20], mem: &[u8], op: u32, f: Flow) -> Plan
     ensures { λ p. ⌜ p ≡ exchange-both (now (r .entry)) (view-of (now (mem .entry))) op f .p ⌝ }
     ensures { λ p. ⌜ now (r .exit) ≡ exchange-both (now (r .entry)) (view-of (now (mem .entry))) op f .r ⌝ }
 {
     exchange(r, op / 512 % 8, 8 + op % 8, f)
 }
 
-pub fn swap(r: &mut [u32; 17], mem: &[u8], op: u32, f: Flow) -> Plan
+pub fn swap(r: &mut [u32; 20], mem: &[u8], op: u32, f: Flow) -> Plan
     ensures { λ p. ⌜ p ≡ swap (now (r .entry)) (view-of (now (mem .entry))) op f .p ⌝ }
     ensures { λ p. ⌜ now (r .exit) ≡ swap (now (r .entry)) (view-of (now (mem .entry))) op f .r ⌝ }
 {
@@ -146,7 +146,7 @@ pub fn swap(r: &mut [u32; 17], mem: &[u8], op: u32, f: Flow) -> Plan
 }
 
 // A7 falls by 4, and is answered.
-fn lowered(r: &mut [u32; 17]) -> u32
+fn lowered(r: &mut [u32; 20]) -> u32
     ensures { λ a. ⌜ a ≡ minus (get (now (r .entry)) 15) 4 ⌝ }
     ensures { λ a. ⌜ now (r .exit) ≡ put (now (r .entry)) 15 a ⌝ }
 {
@@ -156,7 +156,7 @@ fn lowered(r: &mut [u32; 17]) -> u32
 }
 
 // What is stored is An after A7 fell: LINK A7 stores A7 already lowered.
-pub fn link(r: &mut [u32; 17], mem: &[u8], op: u32, f: Flow) -> Plan
+pub fn link(r: &mut [u32; 20], mem: &[u8], op: u32, f: Flow) -> Plan
     ensures { λ p. ⌜ p ≡ link (now (r .entry)) (view-of (now (mem .entry))) op f .p ⌝ }
     ensures { λ p. ⌜ now (r .exit) ≡ link (now (r .entry)) (view-of (now (mem .entry))) op f .r ⌝ }
 {
@@ -170,7 +170,7 @@ pub fn link(r: &mut [u32; 17], mem: &[u8], op: u32, f: Flow) -> Plan
 }
 
 // A7 is put before An: UNLK A7 leaves the long that was read.
-pub fn unlink(r: &mut [u32; 17], mem: &[u8], op: u32, f: Flow) -> Plan
+pub fn unlink(r: &mut [u32; 20], mem: &[u8], op: u32, f: Flow) -> Plan
     ensures { λ p. ⌜ p ≡ unlink (now (r .entry)) (view-of (now (mem .entry))) op f .p ⌝ }
     ensures { λ p. ⌜ now (r .exit) ≡ unlink (now (r .entry)) (view-of (now (mem .entry))) op f .r ⌝ }
 {
@@ -215,7 +215,7 @@ fn every_other(mem: &[u8], a: u32, z: u32, f: Flow) -> Fetched
     h
 }
 
-pub fn movep_to_register(r: &mut [u32; 17], mem: &[u8], op: u32, f: Flow) -> Plan
+pub fn movep_to_register(r: &mut [u32; 20], mem: &[u8], op: u32, f: Flow) -> Plan
     ensures { λ p. ⌜ p ≡ movep-to-register (now (r .entry)) (view-of (now (mem .entry))) op f .p ⌝ }
     ensures { λ p. ⌜ now (r .exit) ≡ movep-to-register (now (r .entry)) (view-of (now (mem .entry))) op f .r ⌝ }
 {
@@ -228,7 +228,7 @@ pub fn movep_to_register(r: &mut [u32; 17], mem: &[u8], op: u32, f: Flow) -> Pla
     plan::nothing(wf)
 }
 
-pub fn movep_to_memory(r: &mut [u32; 17], mem: &[u8], op: u32, f: Flow) -> Plan
+pub fn movep_to_memory(r: &mut [u32; 20], mem: &[u8], op: u32, f: Flow) -> Plan
     ensures { λ p. ⌜ p ≡ movep-to-memory (now (r .entry)) (view-of (now (mem .entry))) op f .p ⌝ }
     ensures { λ p. ⌜ now (r .exit) ≡ movep-to-memory (now (r .entry)) (view-of (now (mem .entry))) op f .r ⌝ }
 {

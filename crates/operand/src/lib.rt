@@ -27,7 +27,7 @@ pub struct Both {
 }
 
 // A register's value, 0 where there is none: 0 to 7 are D0 to D7, 8 to 15 A0 to A7 (the active one), 16 USP in supervisor state.
-pub fn get(r: &[u32; 17], i: u32) -> u32
+pub fn get(r: &[u32; 20], i: u32) -> u32
     ensures { λ q. ⌜ q ≡ get (now (r .entry)) i ⌝ }
 {
     let k = i as usize;
@@ -35,7 +35,7 @@ pub fn get(r: &[u32; 17], i: u32) -> u32
     if there { r[k] } else { 0 }
 }
 
-pub fn put(r: &mut [u32; 17], i: u32, v: u32)
+pub fn put(r: &mut [u32; 20], i: u32, v: u32)
     ensures { λ _. ⌜ now (r .exit) ≡ put (now (r .entry)) i v ⌝ }
 {
     let k = i as usize;
@@ -101,14 +101,14 @@ fn number(v: u32, f: Flow) -> Operand
     }
 }
 
-fn indirect(r: &[u32; 17], n: u32, f: Flow) -> Operand
+fn indirect(r: &[u32; 20], n: u32, f: Flow) -> Operand
     ensures { λ q. ⌜ q ≡ indirect (now (r .entry)) n f ⌝ }
 {
     let a = get(r, 8 + n % 8);
     in_memory(a, 17, 17, 0, f)
 }
 
-fn postincrement(r: &[u32; 17], n: u32, z: u32, f: Flow) -> Operand
+fn postincrement(r: &[u32; 20], n: u32, z: u32, f: Flow) -> Operand
     ensures { λ q. ⌜ q ≡ postincrement (now (r .entry)) n z f ⌝ }
 {
     let a = get(r, 8 + n % 8);
@@ -121,14 +121,14 @@ fn postincrement(r: &[u32; 17], n: u32, z: u32, f: Flow) -> Operand
     )
 }
 
-fn predecrement(r: &[u32; 17], n: u32, z: u32, f: Flow) -> Operand
+fn predecrement(r: &[u32; 20], n: u32, z: u32, f: Flow) -> Operand
     ensures { λ q. ⌜ q ≡ predecrement (now (r .entry)) n z f ⌝ }
 {
     let a = bits::minus(get(r, 8 + n % 8), step_of(n, z));
     in_memory(a, 17, 8 + n % 8, a, f)
 }
 
-fn displaced(r: &[u32; 17], mem: &[u8], n: u32, f: Flow) -> Operand
+fn displaced(r: &[u32; 20], mem: &[u8], n: u32, f: Flow) -> Operand
     ensures { λ q. ⌜ q ≡ displaced (now (r .entry)) (view-of (now (mem .entry))) n f ⌝ }
 {
     let w = bus::next_word(mem, f);
@@ -138,7 +138,7 @@ fn displaced(r: &[u32; 17], mem: &[u8], n: u32, f: Flow) -> Operand
 }
 
 // The index register of an extension word: a word carried on to 32 bits, or a long.
-fn index_value(r: &[u32; 17], w: u32) -> u32
+fn index_value(r: &[u32; 20], w: u32) -> u32
     ensures { λ q. ⌜ q ≡ index-value (now (r .entry)) w ⌝ }
 {
     let x = get(r, w / 4096 % 16);
@@ -150,14 +150,14 @@ fn index_value(r: &[u32; 17], w: u32) -> u32
 }
 
 // A base with the byte and the index register of an extension word.
-fn with_index(r: &[u32; 17], base: u32, w: u32) -> u32
+fn with_index(r: &[u32; 20], base: u32, w: u32) -> u32
     ensures { λ q. ⌜ q ≡ with-index (now (r .entry)) base w ⌝ }
 {
     let x = index_value(r, w);
     std::num::wrapping_add_u32(std::num::wrapping_add_u32(base, bits::sign_byte(w)), x)
 }
 
-fn indexed(r: &[u32; 17], mem: &[u8], n: u32, f: Flow) -> Operand
+fn indexed(r: &[u32; 20], mem: &[u8], n: u32, f: Flow) -> Operand
     ensures { λ q. ⌜ q ≡ indexed (now (r .entry)) (view-of (now (mem .entry))) n f ⌝ }
 {
     let w = bus::next_word(mem, f);
@@ -197,7 +197,7 @@ fn pc_displaced(mem: &[u8], f: Flow) -> Operand
     )
 }
 
-fn pc_indexed(r: &[u32; 17], mem: &[u8], f: Flow) -> Operand
+fn pc_indexed(r: &[u32; 20], mem: &[u8], f: Flow) -> Operand
     ensures { λ q. ⌜ q ≡ pc-indexed (now (r .entry)) (view-of (now (mem .entry))) f ⌝ }
 {
     let pc = f.pc;
@@ -221,7 +221,7 @@ pub fn immediate(mem: &[u8], z: u32, f: Flow) -> Operand
 }
 
 // Mode 7, by its register number.
-fn special(r: &[u32; 17], mem: &[u8], n: u32, z: u32, f: Flow) -> Operand
+fn special(r: &[u32; 20], mem: &[u8], n: u32, z: u32, f: Flow) -> Operand
     ensures { λ q. ⌜ q ≡ special (now (r .entry)) (view-of (now (mem .entry))) n z f ⌝ }
 {
     match n {
@@ -234,7 +234,7 @@ fn special(r: &[u32; 17], mem: &[u8], n: u32, z: u32, f: Flow) -> Operand
 }
 
 // The place of the operand of a mode and a register number. No register is stepped yet.
-pub fn locate(r: &[u32; 17], mem: &[u8], mode: u32, n: u32, z: u32, f: Flow) -> Operand
+pub fn locate(r: &[u32; 20], mem: &[u8], mode: u32, n: u32, z: u32, f: Flow) -> Operand
     ensures { λ q. ⌜ q ≡ locate (now (r .entry)) (view-of (now (mem .entry))) mode n z f ⌝ }
 {
     match mode {
@@ -250,7 +250,7 @@ pub fn locate(r: &[u32; 17], mem: &[u8], mode: u32, n: u32, z: u32, f: Flow) -> 
 }
 
 // What an operand holds, cut to its size.
-pub fn load(r: &[u32; 17], mem: &[u8], p: Operand, z: u32, f: Flow) -> Fetched
+pub fn load(r: &[u32; 20], mem: &[u8], p: Operand, z: u32, f: Flow) -> Fetched
     ensures { λ q. ⌜ q ≡ load (now (r .entry)) (view-of (now (mem .entry))) p z f ⌝ }
 {
     let kind = p.kind;
@@ -269,7 +269,7 @@ pub fn load(r: &[u32; 17], mem: &[u8], p: Operand, z: u32, f: Flow) -> Fetched
 }
 
 // The low byte, word or long of a register.
-pub fn put_low(r: &mut [u32; 17], i: u32, z: u32, v: u32)
+pub fn put_low(r: &mut [u32; 20], i: u32, z: u32, v: u32)
     ensures { λ _. ⌜ now (r .exit) ≡ put-low (now (r .entry)) i z v ⌝ }
 {
     let old = get(r, i);
@@ -292,7 +292,7 @@ fn with_flow(q: Operand, f: Flow) -> Operand
 }
 
 // The operand's value, with its register stepped.
-pub fn source(r: &mut [u32; 17], mem: &[u8], mode: u32, n: u32, z: u32, f: Flow) -> Fetched
+pub fn source(r: &mut [u32; 20], mem: &[u8], mode: u32, n: u32, z: u32, f: Flow) -> Fetched
     ensures { λ w. ⌜ w ≡ source (now (r .entry)) (view-of (now (mem .entry))) mode n z f .w ⌝ }
     ensures { λ w. ⌜ now (r .exit) ≡ source (now (r .entry)) (view-of (now (mem .entry))) mode n z f .r ⌝ }
 {
@@ -304,7 +304,7 @@ pub fn source(r: &mut [u32; 17], mem: &[u8], mode: u32, n: u32, z: u32, f: Flow)
 }
 
 // The operand's place, with its register stepped.
-pub fn target(r: &mut [u32; 17], mem: &[u8], mode: u32, n: u32, z: u32, f: Flow) -> Operand
+pub fn target(r: &mut [u32; 20], mem: &[u8], mode: u32, n: u32, z: u32, f: Flow) -> Operand
     ensures { λ q. ⌜ q ≡ target (now (r .entry)) (view-of (now (mem .entry))) mode n z f .q ⌝ }
     ensures { λ q. ⌜ now (r .exit) ≡ target (now (r .entry)) (view-of (now (mem .entry))) mode n z f .r ⌝ }
 {
@@ -314,7 +314,7 @@ pub fn target(r: &mut [u32; 17], mem: &[u8], mode: u32, n: u32, z: u32, f: Flow)
 }
 
 // The operand's value and place, with its register stepped.
-pub fn modify(r: &mut [u32; 17], mem: &[u8], mode: u32, n: u32, z: u32, f: Flow) -> Both
+pub fn modify(r: &mut [u32; 20], mem: &[u8], mode: u32, n: u32, z: u32, f: Flow) -> Both
     ensures { λ b. ⌜ b ≡ modify (now (r .entry)) (view-of (now (mem .entry))) mode n z f .b ⌝ }
     ensures { λ b. ⌜ now (r .exit) ≡ modify (now (r .entry)) (view-of (now (mem .entry))) mode n z f .r ⌝ }
 {

@@ -84,7 +84,7 @@ pub fn writing(z: u32, at: u32, v: u32, f: Flow) -> Plan
 }
 
 // A result and its flags go to their places: into a register at once, and to memory as a plan.
-pub fn finish(r: &mut [u32; 17], q: Operand, z: u32, a: Flagged) -> Plan
+pub fn finish(r: &mut [u32; 20], q: Operand, z: u32, a: Flagged) -> Plan
     ensures { λ p. ⌜ p ≡ finish (now (r .entry)) q z a .p ⌝ }
     ensures { λ p. ⌜ now (r .exit) ≡ finish (now (r .entry)) q z a .r ⌝ }
 {
@@ -101,7 +101,7 @@ pub fn finish(r: &mut [u32; 17], q: Operand, z: u32, a: Flagged) -> Plan
 }
 
 // A long on the stack.
-pub fn push(r: &mut [u32; 17], v: u32, f: Flow) -> Plan
+pub fn push(r: &mut [u32; 20], v: u32, f: Flow) -> Plan
     ensures { λ p. ⌜ p ≡ push (now (r .entry)) v f .p ⌝ }
     ensures { λ p. ⌜ now (r .exit) ≡ push (now (r .entry)) v f .r ⌝ }
 {

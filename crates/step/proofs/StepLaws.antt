@@ -127,16 +127,17 @@ zero-when-quiet vec trace h = go (eqb vec 0) trace h
     go true false h = (refl, refl)
     go false b h = (h, absurd (let z : _≡_ {A = ℕ} 0 1 = cc in omega arith))
 
-module _ (s m r : List ℕ) (p : Plan) (trace : Bool) where
+-- s₁ is what the code holds of the slots s
+module _ (s m r : List ℕ) (p : Plan) (trace : Bool) (s₁ : List ℕ) (d : s₁ ≡ s) where
   module _ (t : eqb (p .z) 3 ≡ true) (vec : ℕ) (e : vec ≡ trap-of p) where
-    quiet : (eqb vec 0 && not trace) ≡ true → still s m ≡ after s m r p trace
+    quiet : (eqb vec 0 && not trace) ≡ true → still s₁ m ≡ after s m r p trace
     unfolding after
     quiet h =
         let q = zero-when-quiet vec trace h in
         let z : vec ≡ 0 = eqb-true vec 0 (q .0) in
         let b : still s m ≡ both s m (trap-of p) trace = rw (sym e ∙ z, q .1) (both-quiet s m) in cc
 
-    pub after-quiet-slots : (eqb vec 0 && not trace) ≡ true → s ≡ after s m r p trace .s
+    pub after-quiet-slots : (eqb vec 0 && not trace) ≡ true → s₁ ≡ after s m r p trace .s
     after-quiet-slots h = ap (λ (x : Stepped). x .s) (quiet h)
 
     pub after-quiet-memory : (eqb vec 0 && not trace) ≡ true → m ≡ after s m r p trace .m
@@ -145,16 +146,16 @@ module _ (s m r : List ℕ) (p : Plan) (trace : Bool) where
     pub after-quiet-event : (eqb vec 0 && not trace) ≡ true → 0 ≡ after s m r p trace .event
     after-quiet-event h = ap (λ (x : Stepped). x .event) (quiet h)
 
-    pub after-trap : both s m vec trace ≡ after s m r p trace
+    pub after-trap : both s₁ m vec trace ≡ after s m r p trace
     unfolding after
     after-trap = cc
 
   module _ (t : eqb (p .z) 3 ≡ false) (n : List ℕ) (e : n ≡ commit m r p) where
-    pub after-trace : trace ≡ true → trap s n 9 ≡ after s m r p trace
+    pub after-trace : trace ≡ true → trap s₁ n 9 ≡ after s m r p trace
     unfolding after
     after-trace h = cc
 
-    pub after-write-slots : trace ≡ false → s ≡ after s m r p trace .s
+    pub after-write-slots : trace ≡ false → s₁ ≡ after s m r p trace .s
     unfolding after trap
     after-write-slots h = cc
 
@@ -168,17 +169,18 @@ module _ (s m r : List ℕ) (p : Plan) (trace : Bool) where
 
 -- the end of an instruction: t is what was tried, r the registers then
 module _ (s m r : List ℕ) (t : Tried) where
-  pub conclude-fine : (s₁ : List ℕ) (b : Bool) → eqb (t .p .f .bad) 0 ≡ true → b ≡ tracing (sr-of s) → s₁ ≡ settle s r (t .p) → after s₁ m r (t .p) b ≡ conclude s m r t
+  pub conclude-fine : (b : Bool) → eqb (t .p .f .bad) 0 ≡ true → b ≡ tracing (sr-of s) → after (settle s r (t .p)) m r (t .p) b ≡ conclude s m r t
   unfolding conclude
-  conclude-fine s₁ b h e d = cc
+  conclude-fine b h e = cc
 
   pub conclude-faults : eqb (t .p .f .bad) 0 ≡ false → fault s m (t .p .f .bad) (t .op) ≡ conclude s m r t
   unfolding conclude
   conclude-faults h = cc
 
-pub instruction-is : (s m r₀ r : List ℕ) (f : Flow) (t : Tried) → r₀ ≡ bank s → f ≡ fresh (pc-of s) (sr-of s) → t ≡ attempt r₀ (view-of m) f .t → r ≡ attempt r₀ (view-of m) f .r → conclude s m r t ≡ instruction s m
+-- s₁ is the second loan of the slots s
+pub instruction-is : (s s₁ m r₀ r : List ℕ) (f : Flow) (t : Tried) → s₁ ≡ s → r₀ ≡ bank s → f ≡ fresh (pc-of s) (sr-of s) → t ≡ attempt r₀ (view-of m) f .t → r ≡ attempt r₀ (view-of m) f .r → conclude s₁ m r t ≡ instruction s m
 unfolding instruction
-instruction-is s m r₀ r f t e1 e2 e3 e4 = cc
+instruction-is s s₁ m r₀ r f t e0 e1 e2 e3 e4 = cc
 
 module _ (s m : List ℕ) (level vector : ℕ) where
   pub interrupt-is : (sr : ℕ) → sr ≡ interrupt-sr (sr-of s) level → exception s m vector sr ≡ interrupt s m level vector

@@ -4,6 +4,7 @@
 ghost use mathlib.Core.Path.{_≡_};
 ghost use Prim.Native.Nat.{ℕ, _+_, _≤_};
 ghost use lib.ListN.{length};
+ghost use Rattle.bank.specs.Bank.{settle};
 ghost use Rattle.bus.specs.Bus.{view-of};
 ghost use Rattle.touch.specs.Touch.{LogOk, Noted};
 ghost use Rattle.step.specs.Steps.{with-flow, checked, attempt, commit, trap-of, trap, traced, both, after, conclude, instruction, interrupt-sr, interrupt, one-step};
@@ -46,7 +47,7 @@ pub struct Tried {
 }
 
 // An instruction, up to its writes: all that it sees are the registers, PC, SR and the view of memory.
-fn attempt(r: &mut [u32; 17], mem: &[u8], f: Flow) -> Tried
+fn attempt(r: &mut [u32; 20], mem: &[u8], f: Flow) -> Tried
     ensures { λ t. ⌜ t ≡ attempt (now (r .entry)) (view-of (now (mem .entry))) f .t ⌝ }
     ensures { λ t. ⌜ now (r .exit) ≡ attempt (now (r .entry)) (view-of (now (mem .entry))) f .r ⌝ }
 {
@@ -58,7 +59,7 @@ fn attempt(r: &mut [u32; 17], mem: &[u8], f: Flow) -> Tried
 }
 
 // The write of a plan that has one.
-fn commit(mem: &mut [u8], log: &mut [u64], r: &[u32; 17], p: Plan) -> usize
+fn commit(mem: &mut [u8], log: &mut [u64], r: &[u32; 20], p: Plan) -> usize
     requires { ⌜ LogOk (now mem) (now log) 0 × (64 ≤ length (now log)) ⌝ }
     ensures { λ _. ⌜ now (mem .exit) ≡ commit (now (mem .entry)) (now (r .entry)) p ⌝ }
     ensures { λ k. ⌜ Noted (now (mem .entry)) (now (log .entry)) 0 64 (now (mem .exit)) (now (log .exit)) k ⌝ }
@@ -126,41 +127,44 @@ fn both(s: &mut [u32; 20], mem: &mut [u8], log: &mut [u64], vec: u32, trace: boo
     }
 }
 
-// The end of an instruction that met no fault: its write and the trace; or, where it writes nothing, its trap and the trace.
+// The end of an instruction that met no fault: its write and the trace; or, where it writes nothing, its trap and the trace. r has the
+// registers, and then the slots; s the slots before it. MOVEM's write reads the registers, so it comes before they are slots again.
 fn after(
-    s: &mut [u32; 20],
+    r: &mut [u32; 20],
+    s: &[u32; 20],
     mem: &mut [u8],
     log: &mut [u64],
-    r: &[u32; 17],
     p: Plan,
     trace: bool,
 ) -> Ended
     requires { ⌜ LogOk (now mem) (now log) 0 × (70 ≤ length (now log)) ⌝ }
-    ensures { λ _. ⌜ now (s .exit) ≡ after (now (s .entry)) (now (mem .entry)) (now (r .entry)) p trace .s ⌝ }
-    ensures { λ _. ⌜ now (mem .exit) ≡ after (now (s .entry)) (now (mem .entry)) (now (r .entry)) p trace .m ⌝ }
-    ensures { λ e. ⌜ e .event ≡ after (now (s .entry)) (now (mem .entry)) (now (r .entry)) p trace .event ⌝ }
+    ensures { λ _. ⌜ now (r .exit) ≡ after (settle (now (s .entry)) (now (r .entry)) p) (now (mem .entry)) (now (r .entry)) p trace .s ⌝ }
+    ensures { λ _. ⌜ now (mem .exit) ≡ after (settle (now (s .entry)) (now (r .entry)) p) (now (mem .entry)) (now (r .entry)) p trace .m ⌝ }
+    ensures { λ e. ⌜ e .event ≡ after (settle (now (s .entry)) (now (r .entry)) p) (now (mem .entry)) (now (r .entry)) p trace .event ⌝ }
     ensures { λ e. ⌜ Noted (now (mem .entry)) (now (log .entry)) 0 70 (now (mem .exit)) (now (log .exit)) (e .n) ⌝ }
 {
     let none = p.z == 3;
     if none {
+        bank::settle(r, s, p);
         let vec = trap_of(p);
         let quiet = (vec == 0) & !trace;
         if quiet {
             return Ended { n: 0, event: 0 };
         }
-        return both(s, mem, log, vec, trace);
+        return both(r, mem, log, vec, trace);
     }
     let n = commit(mem, log, r, p);
+    bank::settle(r, s, p);
     if trace {
-        return trap(s, mem, log, n, 9);
+        return trap(r, mem, log, n, 9);
     }
     Ended { n, event: 0 }
 }
 
-// The end of an instruction. One that faults keeps nothing of its work: the slots were not touched.
-fn conclude(s: &mut [u32; 20], mem: &mut [u8], log: &mut [u64], r: &[u32; 17], t: Tried) -> Ended
+// The end of an instruction: r has the registers then, s the slots before it. One that faults keeps nothing of its work.
+fn conclude(r: &mut [u32; 20], s: &[u32; 20], mem: &mut [u8], log: &mut [u64], t: Tried) -> Ended
     requires { ⌜ LogOk (now mem) (now log) 0 × (70 ≤ length (now log)) ⌝ }
-    ensures { λ _. ⌜ now (s .exit) ≡ conclude (now (s .entry)) (now (mem .entry)) (now (r .entry)) t .s ⌝ }
+    ensures { λ _. ⌜ now (r .exit) ≡ conclude (now (s .entry)) (now (mem .entry)) (now (r .entry)) t .s ⌝ }
     ensures { λ _. ⌜ now (mem .exit) ≡ conclude (now (s .entry)) (now (mem .entry)) (now (r .entry)) t .m ⌝ }
     ensures { λ e. ⌜ e .event ≡ conclude (now (s .entry)) (now (mem .entry)) (now (r .entry)) t .event ⌝ }
     ensures { λ e. ⌜ Noted (now (mem .entry)) (now (log .entry)) 0 70 (now (mem .exit)) (now (log .exit)) (e .n) ⌝ }
@@ -170,15 +174,17 @@ fn conclude(s: &mut [u32; 20], mem: &mut [u8], log: &mut [u64], r: &[u32; 17], t
     let fine = f.bad == 0;
     if fine {
         let trace = bank::tracing(s[18]);
-        bank::settle(s, r, p);
-        return after(s, mem, log, r, p, trace);
+        return after(r, s, mem, log, p, trace);
     }
-    exception::fault(s, mem, log, 0, f.bad, t.op)
+    let before = *s;
+    *r = before;
+    exception::fault(r, mem, log, 0, f.bad, t.op)
 }
 
-// One instruction.
-fn instruction(s: &mut [u32; 20], mem: &mut [u8], log: &mut [u64]) -> Ended
+// One instruction. The slots before it are lent a second time, as they were.
+fn instruction(s: &mut [u32; 20], before: &[u32; 20], mem: &mut [u8], log: &mut [u64]) -> Ended
     requires { ⌜ LogOk (now mem) (now log) 0 × (70 ≤ length (now log)) ⌝ }
+    requires { ⌜ now before ≡ now s ⌝ }
     ensures { λ _. ⌜ now (s .exit) ≡ instruction (now (s .entry)) (now (mem .entry)) .s ⌝ }
     ensures { λ _. ⌜ now (mem .exit) ≡ instruction (now (s .entry)) (now (mem .entry)) .m ⌝ }
     ensures { λ e. ⌜ e .event ≡ instruction (now (s .entry)) (now (mem .entry)) .event ⌝ }
@@ -186,9 +192,9 @@ fn instruction(s: &mut [u32; 20], mem: &mut [u8], log: &mut [u64]) -> Ended
 {
     let sr = s[18];
     let pc = s[17];
-    let mut r = bank::bank(s);
-    let t = attempt(&mut r, mem, exception::fresh(pc, sr));
-    conclude(s, mem, log, &r, t)
+    bank::bank(s);
+    let t = attempt(s, mem, exception::fresh(pc, sr));
+    conclude(s, before, mem, log, t)
 }
 
 // An interrupt: the mask becomes its level.
@@ -209,15 +215,18 @@ fn interrupt_sr(sr: u32, level: u32) -> u32
     8192 + level % 8 * 256 + sr % 256
 }
 
-// One whole step with its request: an interrupt that is taken, or nothing where the machine is stopped, or one instruction.
+// One whole step with its request, the slots before it lent a second time: an interrupt that is taken, or nothing where the machine is
+// stopped, or one instruction.
 pub fn one_step(
     s: &mut [u32; 20],
+    before: &[u32; 20],
     mem: &mut [u8],
     log: &mut [u64],
     level: u32,
     vector: u32,
 ) -> Ended
     requires { ⌜ LogOk (now mem) (now log) 0 × (70 ≤ length (now log)) ⌝ }
+    requires { ⌜ now before ≡ now s ⌝ }
     ensures { λ _. ⌜ now (s .exit) ≡ one-step (now (s .entry)) (now (mem .entry)) level vector .s ⌝ }
     ensures { λ _. ⌜ now (mem .exit) ≡ one-step (now (s .entry)) (now (mem .entry)) level vector .m ⌝ }
     ensures { λ e. ⌜ e .event ≡ one-step (now (s .entry)) (now (mem .entry)) level vector .event ⌝ }
@@ -230,7 +239,7 @@ pub fn one_step(
     }
     let running = s[19] == 0;
     if running {
-        return instruction(s, mem, log);
+        return instruction(s, before, mem, log);
     }
     Ended { n: 0, event: 0 }
 }

@@ -41,7 +41,7 @@ pub fn immediate_to_sr(which: u32, mem: &[u8], f: Flow) -> Plan
 }
 
 // MOVE from SR. The flags stay as they are.
-pub fn move_from_sr(r: &mut [u32; 17], mem: &[u8], op: u32, f: Flow) -> Plan
+pub fn move_from_sr(r: &mut [u32; 20], mem: &[u8], op: u32, f: Flow) -> Plan
     ensures { λ p. ⌜ p ≡ move-from-sr (now (r .entry)) (view-of (now (mem .entry))) op f .p ⌝ }
     ensures { λ p. ⌜ now (r .exit) ≡ move-from-sr (now (r .entry)) (view-of (now (mem .entry))) op f .r ⌝ }
 {
@@ -52,7 +52,7 @@ pub fn move_from_sr(r: &mut [u32; 17], mem: &[u8], op: u32, f: Flow) -> Plan
 }
 
 // MOVE to CCR.
-pub fn move_to_ccr(r: &mut [u32; 17], mem: &[u8], op: u32, f: Flow) -> Plan
+pub fn move_to_ccr(r: &mut [u32; 20], mem: &[u8], op: u32, f: Flow) -> Plan
     ensures { λ p. ⌜ p ≡ move-to-ccr (now (r .entry)) (view-of (now (mem .entry))) op f .p ⌝ }
     ensures { λ p. ⌜ now (r .exit) ≡ move-to-ccr (now (r .entry)) (view-of (now (mem .entry))) op f .r ⌝ }
 {
@@ -62,7 +62,7 @@ pub fn move_to_ccr(r: &mut [u32; 17], mem: &[u8], op: u32, f: Flow) -> Plan
 }
 
 // MOVE to SR.
-pub fn move_to_sr(r: &mut [u32; 17], mem: &[u8], op: u32, f: Flow) -> Plan
+pub fn move_to_sr(r: &mut [u32; 20], mem: &[u8], op: u32, f: Flow) -> Plan
     ensures { λ p. ⌜ p ≡ move-to-sr (now (r .entry)) (view-of (now (mem .entry))) op f .p ⌝ }
     ensures { λ p. ⌜ now (r .exit) ≡ move-to-sr (now (r .entry)) (view-of (now (mem .entry))) op f .r ⌝ }
 {
@@ -72,7 +72,7 @@ pub fn move_to_sr(r: &mut [u32; 17], mem: &[u8], op: u32, f: Flow) -> Plan
 }
 
 // MOVE An,USP.
-pub fn move_to_usp(r: &mut [u32; 17], op: u32, f: Flow) -> Plan
+pub fn move_to_usp(r: &mut [u32; 20], op: u32, f: Flow) -> Plan
     ensures { λ p. ⌜ p ≡ nothing f ⌝ }
     ensures { λ p. ⌜ now (r .exit) ≡ put (now (r .entry)) 16 (address (now (r .entry)) op) ⌝ }
 {
@@ -82,7 +82,7 @@ pub fn move_to_usp(r: &mut [u32; 17], op: u32, f: Flow) -> Plan
 }
 
 // MOVE USP,An.
-pub fn move_from_usp(r: &mut [u32; 17], op: u32, f: Flow) -> Plan
+pub fn move_from_usp(r: &mut [u32; 20], op: u32, f: Flow) -> Plan
     ensures { λ p. ⌜ p ≡ nothing f ⌝ }
     ensures { λ p. ⌜ now (r .exit) ≡ put (now (r .entry)) (8 + op % 8) (get (now (r .entry)) 16) ⌝ }
 {
@@ -99,7 +99,7 @@ pub fn reset_devices(f: Flow) -> Plan
 }
 
 // RTE.
-pub fn return_exception(r: &mut [u32; 17], mem: &[u8], op: u32, f: Flow) -> Plan
+pub fn return_exception(r: &mut [u32; 20], mem: &[u8], op: u32, f: Flow) -> Plan
     ensures { λ p. ⌜ p ≡ return-exception (now (r .entry)) (view-of (now (mem .entry))) op f .p ⌝ }
     ensures { λ p. ⌜ now (r .exit) ≡ return-exception (now (r .entry)) (view-of (now (mem .entry))) op f .r ⌝ }
 {
@@ -142,7 +142,7 @@ pub fn trap_overflow(f: Flow) -> Plan
 }
 
 // CHK.
-pub fn check_bounds(r: &mut [u32; 17], mem: &[u8], op: u32, f: Flow) -> Plan
+pub fn check_bounds(r: &mut [u32; 20], mem: &[u8], op: u32, f: Flow) -> Plan
     ensures { λ p. ⌜ p ≡ check-bounds (now (r .entry)) (view-of (now (mem .entry))) op f .p ⌝ }
     ensures { λ p. ⌜ now (r .exit) ≡ check-bounds (now (r .entry)) (view-of (now (mem .entry))) op f .r ⌝ }
 {
