@@ -84,7 +84,7 @@ module _ (len : ℕ) (s : List ℕ) where
     shaped-found h k = rw (e, h, k)
 
 -- what a shaped record says of its values
-none-found : {A : Type 0} (ss bs : List Change) (r : List ℕ) → none ≡ found ss bs r → A
+pub none-found : {A : Type 0} (ss bs : List Change) (r : List ℕ) → none ≡ found ss bs r → A
 none-found ss bs r e = absurd (let z : _≡_ {A = ℕ} 0 1 = cc in omega arith)
 
 abbrev Valid : Record → List Change → List Change → List ℕ → Type 0

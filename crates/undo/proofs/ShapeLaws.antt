@@ -15,7 +15,7 @@ use Rattle.record.specs.Change.{Change, change-bytes, changes-bytes, record-of}
 use Rattle.record.proofs.ChangeLaws.{bytes-append}
 use Rattle.undo.specs.Undo.{One, one, no-change, read-place, read-old, read-change, Parsed, parsed, broken, read-rest, read-changes, Record, found, none, with-slots, with-bytes, with-slot-count, with-byte-count, read-record, shaped-record, well-formed}
 use Rattle.undo.proofs.ReadLaws.{length-back}
-use Rattle.undo.proofs.JudgeLaws.{shaped-valid, well-formed-inv}
+use Rattle.undo.proofs.JudgeLaws.{none-found, shaped-valid, well-formed-inv}
 
 -- ---- one change
 no-one : {A : Type 0} (c : Change) (t : List ℕ) → no-change ≡ one c t → A
@@ -90,9 +90,6 @@ bytes-of-read-changes n lim s cs r e h =
     (w .2 ∙ ap (λ (l : List Change). reverse (changes-bytes l) ++ r) (sym same), ap length same ∙ w .3)
 
 -- ---- a record
-none-found : {A : Type 0} (ss bs : List Change) (r : List ℕ) → none ≡ found ss bs r → A
-none-found ss bs r e = absurd (let z : _≡_ {A = ℕ} 0 1 = cc in omega arith)
-
 if-inv : (b : Bool) (w : Record) (ss bs : List Change) (r : List ℕ) → pick b w none ≡ found ss bs r → w ≡ found ss bs r
 if-inv true w ss bs r e = e
 if-inv false w ss bs r e = none-found ss bs r e
