@@ -1,56 +1,17 @@
--- GroupSteps.antt - what each return of put_groups and read_groups owes.
+-- GroupSteps.antt - what each return of read_groups owes: what the code's ways of reading a number find.
 -- Speaks of: specs/Number.antt.
 -- Assumes nothing.  Source: [01 The journal].
-use Prim.Native.Nat.{ℕ, zero, suc, _+_, _-_, _*_, _/_, _%_, _^_, _≤_, _<_}
+use Prim.Native.Nat.{ℕ, zero, suc, _+_, _-_, _*_, _^_, _≤_, _<_}
 use mathlib.Core.Path.{_≡_, refl, ap, _∙_}
-use mathlib.Core.List.{List, [], _∷_, _++_}
-use native.Mathlib.Nat.{mod-eq-of-lt}
+use mathlib.Core.List.{List, _∷_}
 use native.Mathlib.Numerals.{sub-one}
 use native.Mathlib.Omega.{arith}
-use lib.ListN.{length, getD, set, length-append}
+use lib.ListN.{length, getD}
 use borrow.Author.Tests.{lt-ltb, le-ltb, ne-eqb, eq-eqb}
-use Rattle.numbers.specs.Number.{groups, top, Got, got, bad, join, read-groups, read-number, written, back, GroupsIs, NumberIs}
+use Rattle.numbers.specs.Number.{top, Got, got, bad, join, read-groups, read-number, back, GroupsIs, NumberIs}
 use Rattle.numbers.specs.declared.Reading.{Reading}
 use Rattle.numbers.specs.declared.Reading.the-variants.{Number, Bad}
-use Rattle.numbers.proofs.WrittenLaws.{written-one, written-snoc, back-suc}
-use Rattle.numbers.proofs.NumberLaws.{groups-small, groups-large}
-
--- ---- the code's k - 1
-pub pred-of : (k v : ℕ) → 128 ≤ v → v < top k → 1 ≤ k
-pred-of zero v h t = absurd (omega arith)
-pred-of (suc k) v h t = omega arith
-
--- the same at the code's k - 1
-pub groups-step : (k v : ℕ) → 128 ≤ v → v < top k → groups k v ≡ groups (k - 1) (v / 128) ++ (v % 128 + 128) ∷ []
-groups-step zero v h t = absurd (omega arith)
-groups-step (suc k) v h t = groups-large k v h ∙ rw (sub-one (suc k))
-
-pub top-step : (k v : ℕ) → 128 ≤ v → v < top k → v / 128 < top (k - 1)
-top-step zero v h t = absurd (omega arith)
-top-step (suc k) v h t = rw (sub-one (suc k)) (omega arith)
-
--- ---- what the code's two ways of writing a number leave
-
-pub put-one : (l : List ℕ) (at v k : ℕ) → v < 128 → at + length (groups k v) ≤ length l
-    → (at + 1 ≡ at + length (groups k v)) × (set l at (v % 128) ≡ written l at (groups k v))
-put-one l at v k h f =
-    let f′ : at + 1 ≤ length l = rw (groups-small k v h) at f in
-    rw (groups-small k v h, mod-eq-of-lt h) (refl, written-one l at v (omega arith))
-
--- the room that is left after the upper groups
-pub put-room : (l : List ℕ) (at v k : ℕ) → 128 ≤ v → v < top k → at + length (groups k v) ≤ length l → at + length (groups (k - 1) (v / 128)) < length l
-put-room l at v k h t f = omega (arith, ap length (groups-step k v h t), length-append (groups (k - 1) (v / 128)) ((v % 128 + 128) ∷ []))
-
-pub put-more : (l : List ℕ) (at v k : ℕ) → 128 ≤ v → v < top k → at + length (groups k v) ≤ length l
-    → (p : ℕ) (m : List ℕ) → p ≡ at + length (groups (k - 1) (v / 128)) → m ≡ written l at (groups (k - 1) (v / 128))
-    → (p + 1 ≡ at + length (groups k v)) × (set m p (v % 128 + 128) ≡ written l at (groups k v))
-put-more l at v k h t f p m ep em =
-    let room = put-room l at v k h t f in (
-      omega (arith, ap length (groups-step k v h t), length-append (groups (k - 1) (v / 128)) ((v % 128 + 128) ∷ [])),
-      rw (groups-step k v h t, ep, em) (written-snoc l at (groups (k - 1) (v / 128)) (v % 128 + 128) room),
-    )
-
--- ---- what the code's ways of reading a number find
+use Rattle.numbers.proofs.WrittenLaws.{back-suc}
 
 pub back-of-pred : (l : List ℕ) (e : ℕ) → (e ≡ 0 → ⊥) → e ≤ length l → back l e ≡ getD l (e - 1) 0 ∷ back l (e - 1)
 back-of-pred l zero n h = absurd (n refl)

@@ -1,5 +1,5 @@
 -- Number.antt - the journal's numbers: seven bits to a group, the highest first, as few groups as possible; read from the end.
--- Met by: src/lib.rt.  Laws: proofs/NumberLaws.antt, proofs/WrittenLaws.antt.  Examples: specs/Examples.antt.
+-- Met by: src/lib.rt.  Laws: proofs/NumberLaws.antt, proofs/WrittenLaws.antt, proofs/PutLaws.antt.  Examples: specs/Examples.antt.
 -- Uses: nothing.  Source: [01 The journal].
 use Prim.Native.Nat.{ℕ, zero, suc, _+_, _-_, _*_, _/_, _%_, _^_, _<_}
 use mathlib.Core.Path.{_≡_}

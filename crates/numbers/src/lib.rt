@@ -1,10 +1,10 @@
 // lib.rt - the journal's numbers: written at a place, and read back from the place where they end.
-// Means: specs/Number.antt.  Laws: proofs/NumberLaws.antt, proofs/WrittenLaws.antt, proofs/ExampleLaws.antt.
+// Means: specs/Number.antt.  Laws: proofs/NumberLaws.antt, proofs/WrittenLaws.antt, proofs/PutLaws.antt, proofs/ExampleLaws.antt.
 // Uses: nothing.  Source: [01 The journal].
 ghost use mathlib.Core.Path.{_≡_};
 ghost use Prim.Native.Nat.{_+_, _-_, _*_, _^_, _≤_, _<_};
 ghost use lib.ListN.{length};
-ghost use Rattle.numbers.specs.Number.{groups, top, number-bytes, written, GroupsIs, NumberIs};
+ghost use Rattle.numbers.specs.Number.{number-bytes, written, GroupsIs, NumberIs};
 
 // A number and the place where it starts, or no number.
 pub enum Reading {
@@ -12,19 +12,14 @@ pub enum Reading {
     Bad,
 }
 
-// Writes v in at most k groups after the first at place at; returns the place after it.
-fn put_groups(journal: &mut [u8], at: usize, v: u32, k: u32) -> usize
-    requires { ⌜ (v < top k) × (at + length (groups k v) ≤ length (now journal)) ⌝ }
-    ensures next { λ r. ⌜ r ≡ at + length (groups k v) ⌝ }
-    ensures bytes { λ _. ⌜ now (journal .exit) ≡ written (now (journal .entry)) at (groups k v) ⌝ }
+// Writes v, which fits in one byte, at place at; returns the place after it.
+pub fn put_small(journal: &mut [u8], at: usize, v: u32) -> usize
+    requires { ⌜ (v < 128) × (at + length (number-bytes v) ≤ length (now journal)) ⌝ }
+    ensures next { λ r. ⌜ r ≡ at + length (number-bytes v) ⌝ }
+    ensures bytes { λ _. ⌜ now (journal .exit) ≡ written (now (journal .entry)) at (number-bytes v) ⌝ }
 {
-    if v < 128 {
-        journal[at] = (v % 128) as u8;
-        return at + 1;
-    }
-    let p = put_groups(journal, at, v / 128, k - 1);
-    journal[p] = (v % 128 + 128) as u8;
-    p + 1
+    journal[at] = (v % 128) as u8;
+    at + 1
 }
 
 // Writes v at place at; returns the place after it.
@@ -33,7 +28,33 @@ pub fn put_number(journal: &mut [u8], at: usize, v: u32) -> usize
     ensures next { λ r. ⌜ r ≡ at + length (number-bytes v) ⌝ }
     ensures bytes { λ _. ⌜ now (journal .exit) ≡ written (now (journal .entry)) at (number-bytes v) ⌝ }
 {
-    put_groups(journal, at, v, 4)
+    if v < 128 {
+        return put_small(journal, at, v);
+    }
+    if v < 16384 {
+        journal[at] = (v / 128) as u8;
+        journal[at + 1] = (v % 128 + 128) as u8;
+        return at + 2;
+    }
+    if v < 2097152 {
+        journal[at] = (v / 16384) as u8;
+        journal[at + 1] = (v / 128 % 128 + 128) as u8;
+        journal[at + 2] = (v % 128 + 128) as u8;
+        return at + 3;
+    }
+    if v < 268435456 {
+        journal[at] = (v / 2097152) as u8;
+        journal[at + 1] = (v / 16384 % 128 + 128) as u8;
+        journal[at + 2] = (v / 128 % 128 + 128) as u8;
+        journal[at + 3] = (v % 128 + 128) as u8;
+        return at + 4;
+    }
+    journal[at] = (v / 268435456) as u8;
+    journal[at + 1] = (v / 2097152 % 128 + 128) as u8;
+    journal[at + 2] = (v / 16384 % 128 + 128) as u8;
+    journal[at + 3] = (v / 128 % 128 + 128) as u8;
+    journal[at + 4] = (v % 128 + 128) as u8;
+    at + 5
 }
 
 // The last group, whose byte is b, after the groups before it.

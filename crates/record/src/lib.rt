@@ -1,15 +1,18 @@
 // lib.rt - the record of a step: what differs, with its old values, written at the mark.
-// Means: specs/Change.antt.  Laws: proofs/ChangeLaws.antt, proofs/DiffLaws.antt, proofs/KeptLaws.antt, proofs/SizeLaws.antt.
+// Means: specs/Change.antt, specs/Mask.antt.  Laws: proofs/ChangeLaws.antt, proofs/DiffLaws.antt, proofs/KeptLaws.antt, proofs/MaskLaws.antt, proofs/SizeLaws.antt.
 // Uses: numbers.  Source: [01 The journal].
 pub mod limits;
 
 use limits::SLOT_LIMIT;
 use numbers::put_number;
+use numbers::put_small;
 ghost use mathlib.Core.Path.{_≡_};
-ghost use Prim.Native.Nat.{_+_, _≤_, _<_, _^_};
+ghost use Prim.Native.Nat.{_+_, _*_, _≤_, _<_, _^_};
 ghost use lib.ListN.{length};
 ghost use Rattle.numbers.specs.Number.{written};
 ghost use Rattle.record.specs.Change.{changed, AllPut, diffs, restore, kept, Ascending, changes, change-bytes, changes-bytes, step-record};
+ghost use Rattle.record.specs.Mask.{mask};
+ghost use Rattle.record.specs.Limits.{slot-limit};
 
 // The place after what was written, and how many changes that was.
 pub struct Put {
@@ -44,19 +47,42 @@ fn put_changed(journal: &mut [u8], put: Put, place: u32, old: u32, new: u32) -> 
     }
 }
 
-// Writes the changes between two sets of slots.
-fn put_slots(journal: &mut [u8], at: usize, old: &[u32], new: &[u32]) -> Put
-    requires { ⌜ (length (now old) ≡ length (now new)) × (length (now old) < 2 ^ 32) ⌝ }
-    requires { ⌜ at + length (changes-bytes (diffs 0 (now old) (now new))) ≤ length (now journal) ⌝ }
-    ensures { λ r. ⌜ AllPut (now (journal .entry)) at (diffs 0 (now (old .entry)) (now (new .entry))) (now (journal .exit)) r ⌝ }
+// The slots that differ, one bit each, slot 0 in bit 1. The weights begin at 2: then the compiler compares four slots at once.
+fn differing(old: &[u32], new: &[u32]) -> u32
+    requires { ⌜ (length (now old) ≡ slot-limit) × (length (now new) ≡ slot-limit) ⌝ }
+    ensures { λ r. ⌜ r ≡ 2 * mask (now (old .entry)) (now (new .entry)) ⌝ }
 {
-    let mut put = Put { at, count: 0 };
-    let mut i = 0;
-    while i < old.len() {
-        put = put_changed(journal, put, i as u32, old[i], new[i]);
+    let mut m: u32 = 0;
+    let mut w: u32 = 2;
+    let mut i: usize = 0;
+    while i < SLOT_LIMIT {
+        if old[i] != new[i] {
+            m = m | w;
+        }
+        w = w * 2;
         i += 1;
     }
-    put
+    m
+}
+
+// Writes the changes between two sets of slots.
+fn put_slots(journal: &mut [u8], at: usize, old: &[u32; SLOT_LIMIT], new: &[u32; SLOT_LIMIT]) -> Put
+    requires { ⌜ at + length (changes-bytes (diffs 0 (now old) (now new))) ≤ length (now journal) ⌝ }
+    ensures put { λ r. ⌜ AllPut (now (journal .entry)) at (diffs 0 (now (old .entry)) (now (new .entry))) (now (journal .exit)) r ⌝ }
+    ensures few { λ r. ⌜ r .count ≤ slot-limit ⌝ }
+{
+    let mut m = differing(old, new);
+    let mut p = at;
+    let mut n: u32 = 0;
+    while m != 0 {
+        let z = u32::trailing_zeros(m);
+        let k = z - 1;
+        p = put_small(journal, p, k);
+        p = put_number(journal, p, old[k as usize]);
+        m = m & (m - 1);
+        n += 1;
+    }
+    Put { at: p, count: n }
 }
 
 // Writes the changes of a log whose old value the memory does not hold any more.
@@ -97,8 +123,13 @@ pub fn put_record(
     ensures next { λ r. ⌜ r ≡ mark + length (step-record (now (old .entry)) (now (new .entry)) (restore (changes (now (log .entry)) n) (now (memory .entry))) (now (memory .entry))) ⌝ }
     ensures bytes { λ _. ⌜ now (journal .exit) ≡ written (now (journal .entry)) mark (step-record (now (old .entry)) (now (new .entry)) (restore (changes (now (log .entry)) n) (now (memory .entry))) (now (memory .entry))) ⌝ }
 {
+    if n == 0 {
+        let s = put_slots(journal, mark, old, new);
+        let c = put_small(journal, s.at, s.count);
+        return put_small(journal, c, 0);
+    }
     let s = put_slots(journal, mark, old, new);
     let b = put_bytes(journal, s.at, memory, log, n);
-    let c = put_number(journal, b.at, s.count);
+    let c = put_small(journal, b.at, s.count);
     put_number(journal, c, b.count)
 }

@@ -1,17 +1,125 @@
--- put_number: five groups hold 32 bits.
+-- put_number: by the number's range; in each, the bytes that are set one after the other are the number's.
+use Prim.Native.Nat.{ℕ, _+_, _/_, _%_}
+use mathlib.Core.Path.{_≡_, ap}
+use mathlib.Core.List.{List, [], _∷_}
 use native.Mathlib.Omega.{arith}
-use Rattle.numbers.specs.Number.{number-bytes}
+use lib.ListN.{length, length-set}
+use denote.Ref.{now}
 use borrow.Author.Needs.{needs}
+use Rattle.numbers.specs.Number.{number-bytes}
+use Rattle.numbers.proofs.PutLaws.{number-bytes-two, number-bytes-three, number-bytes-four, number-bytes-five, put-each}
 use Rattle.numbers.proofs.put_number.Statement.{statement}
 use Rattle.numbers.proofs.put_number.Tie as tie
 
-put-groups-requires : tie.Need-put-groups-requires
-unfolding number-bytes
-put-groups-requires c κs = (omega arith, c .before .before .pre)
+-- the bytes after the first, and that they are the number's, in each range that has more than one byte
+abbrev rest-two : ℕ → List ℕ
+rest-two v = (v % 128 + 128) ∷ []
 
-returns : tie.Need-returns
-unfolding number-bytes
-returns c = search needs
+abbrev rest-three : ℕ → List ℕ
+rest-three v = (v / 128 % 128 + 128) ∷ rest-two v
+
+abbrev rest-four : ℕ → List ℕ
+rest-four v = (v / 16384 % 128 + 128) ∷ rest-three v
+
+abbrev rest-five : ℕ → List ℕ
+rest-five v = (v / 2097152 % 128 + 128) ∷ rest-four v
+
+two : (c : tie.Then2) → let v = c .before .before .before .args .v in number-bytes v ≡ v / 128 ∷ rest-two v
+two c = number-bytes-two (c .before .before .before .args .v) (c .before .if1 .left) (c .if2 .taken)
+
+three : (c : tie.Then3) → let v = c .before .before .before .before .args .v in number-bytes v ≡ v / 16384 ∷ rest-three v
+three c = number-bytes-three (c .before .before .before .before .args .v) (c .before .if2 .left) (c .if3 .taken)
+
+four : (c : tie.Then4) → let v = c .before .before .before .before .before .args .v in number-bytes v ≡ v / 2097152 ∷ rest-four v
+four c = number-bytes-four (c .before .before .before .before .before .args .v) (c .before .if3 .left) (c .if4 .taken)
+
+five : (c : tie.Else4) → let v = c .before .before .before .before .before .args .v in number-bytes v ≡ v / 268435456 ∷ rest-five v
+five c = number-bytes-five (c .before .before .before .before .before .args .v) (c .if4 .left) (omega arith)
+
+returns-2 : tie.Need-returns-2
+returns-2 c =
+    let s = c .before .before .before in
+    put-each (now (s .args .journal)) (s .args .at) (s .args .v) (s .args .v / 128) (rest-two (s .args .v)) (two c) (s .pre)
+
+returns-3 : tie.Need-returns-3
+returns-3 c =
+    let s = c .before .before .before .before in
+    put-each (now (s .args .journal)) (s .args .at) (s .args .v) (s .args .v / 16384) (rest-three (s .args .v)) (three c) (s .pre)
+
+returns-4 : tie.Need-returns-4
+returns-4 c =
+    let s = c .before .before .before .before .before in
+    put-each (now (s .args .journal)) (s .args .at) (s .args .v) (s .args .v / 2097152) (rest-four (s .args .v)) (four c) (s .pre)
+
+returns-5 : tie.Need-returns-5
+returns-5 c =
+    let s = c .before .before .before .before .before in
+    put-each (now (s .args .journal)) (s .args .at) (s .args .v) (s .args .v / 268435456) (rest-five (s .args .v)) (five c) (s .pre)
 
 pub put-number-spec : {M : Type 1} → statement M
-put-number-spec = tie.close (tie.spec put-groups-requires (λ c. search needs) returns)
+put-number-spec =
+    tie.close
+    (tie.spec
+    (λ c κs. search needs)
+    (λ c. search needs)
+    (λ c. search needs)
+    (λ c. search needs)
+    (λ c. omega (arith, ap length (two c)))
+    (λ c. search needs)
+    (λ c. search needs)
+    (λ c. search needs)
+    (λ c. simp length-set (omega (arith, ap length (two c))))
+    (λ c. search needs)
+    (λ c. search needs)
+    returns-2
+    (λ c. search needs)
+    (λ c. omega (arith, ap length (three c)))
+    (λ c. search needs)
+    (λ c. search needs)
+    (λ c. search needs)
+    (λ c. simp length-set (omega (arith, ap length (three c))))
+    (λ c. search needs)
+    (λ c. search needs)
+    (λ c. search needs)
+    (λ c. simp length-set (omega (arith, ap length (three c))))
+    (λ c. search needs)
+    (λ c. search needs)
+    returns-3
+    (λ c. search needs)
+    (λ c. omega (arith, ap length (four c)))
+    (λ c. search needs)
+    (λ c. search needs)
+    (λ c. search needs)
+    (λ c. simp length-set (omega (arith, ap length (four c))))
+    (λ c. search needs)
+    (λ c. search needs)
+    (λ c. search needs)
+    (λ c. simp length-set (omega (arith, ap length (four c))))
+    (λ c. search needs)
+    (λ c. search needs)
+    (λ c. search needs)
+    (λ c. simp length-set (omega (arith, ap length (four c))))
+    (λ c. search needs)
+    (λ c. search needs)
+    returns-4
+    (λ c. search needs)
+    (λ c. omega (arith, ap length (five c)))
+    (λ c. search needs)
+    (λ c. search needs)
+    (λ c. search needs)
+    (λ c. simp length-set (omega (arith, ap length (five c))))
+    (λ c. search needs)
+    (λ c. search needs)
+    (λ c. search needs)
+    (λ c. simp length-set (omega (arith, ap length (five c))))
+    (λ c. search needs)
+    (λ c. search needs)
+    (λ c. search needs)
+    (λ c. simp length-set (omega (arith, ap length (five c))))
+    (λ c. search needs)
+    (λ c. search needs)
+    (λ c. search needs)
+    (λ c. simp length-set (omega (arith, ap length (five c))))
+    (λ c. search needs)
+    (λ c. search needs)
+    returns-5)
