@@ -52,7 +52,7 @@ pub record Masked (os ns : List ℕ) (m w i : ℕ) : Type 0 where
 pub masked-start : (os ns : List ℕ) → Masked os ns 0 2 0
 masked-start os ns = record { weight = refl; below = omega arith; whole = zero-add (2 * mask os ns) }
 
-module _ (os ns : List ℕ) (m w i : ℕ) (even : length os ≡ length ns) (h : i < length os) (was : Masked os ns m w i) where
+module _ (os ns : List ℕ) (m w i : ℕ) (long : length os ≡ length ns) (h : i < length os) (was : Masked os ns m w i) where
   abbrev differ : ℕ
   differ = unequal (getD os i 0) (getD ns i 0)
 
@@ -62,7 +62,7 @@ module _ (os ns : List ℕ) (m w i : ℕ) (even : length os ≡ length ns) (h : 
   step : (m′ : ℕ) → m′ ≡ m + w * differ → m′ < w * 2 → Masked os ns m′ (w * 2) (i + 1)
   step m′ e b =
       let at-i : w * mask (drop i os) (drop i ns) ≡ w * differ + w * 2 * rest =
-      ap (λ (x : ℕ). w * x) (mask-at os ns i even h) ∙ mul-add w differ (2 * rest) ∙ ap (λ (x : ℕ). w * differ + x) (sym (mul-assoc w 2 rest)) in
+      ap (λ (x : ℕ). w * x) (mask-at os ns i long h) ∙ mul-add w differ (2 * rest) ∙ ap (λ (x : ℕ). w * differ + x) (sym (mul-assoc w 2 rest)) in
       record {
         weight = ap (λ (x : ℕ). x * 2) (was .weight) ∙ sym (pow-suc 2 (i + 1)) ∙ ap (λ (x : ℕ). 2 ^ x) (sym (add-one (i + 1)));
         below = b;

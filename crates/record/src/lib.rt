@@ -48,6 +48,7 @@ fn put_changed(journal: &mut [u8], put: Put, place: u32, old: u32, new: u32) -> 
 }
 
 // The slots that differ, one bit each, slot 0 in bit 1. The weights begin at 2: then the compiler compares four slots at once.
+// It takes slices, so that put_slots is told how many slots it lends; the compiled code is that for arrays.
 fn differing(old: &[u32], new: &[u32]) -> u32
     requires { ⌜ (length (now old) ≡ slot-limit) × (length (now new) ≡ slot-limit) ⌝ }
     ensures { λ r. ⌜ r ≡ 2 * mask (now (old .entry)) (now (new .entry)) ⌝ }
