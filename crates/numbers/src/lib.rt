@@ -93,10 +93,29 @@ fn read_groups(journal: &[u8], end: usize, k: u32) -> Reading
     Reading::Number(join_group(hi, b), s)
 }
 
-// The number that ends at place end.
+// The number that ends at place end. Most are of one or two bytes, and are read here; the longer ones group by group.
 pub fn read_number(journal: &[u8], end: usize) -> Reading
     requires { ⌜ end ≤ length (now journal) ⌝ }
     ensures { λ r. ⌜ NumberIs (now (journal .entry)) end r ⌝ }
 {
+    if end == 0 {
+        return Reading::Bad;
+    }
+    let e = end - 1;
+    let b = journal[e];
+    if b < 128 {
+        return Reading::Number(b as u32, e);
+    }
+    if e == 0 {
+        return Reading::Bad;
+    }
+    let s = e - 1;
+    let c = journal[s];
+    if c == 0 {
+        return Reading::Bad;
+    }
+    if c < 128 {
+        return Reading::Number(join_group(c as u32, b), s);
+    }
     read_groups(journal, end, 4)
 }
