@@ -4,7 +4,7 @@
 ghost use mathlib.Core.Path.{_≡_};
 ghost use Prim.Native.Nat.{ℕ, _+_, _*_, _%_, _/_, _<_, _≤_};
 ghost use lib.ListN.{getD, set};
-ghost use Rattle.bank.specs.Bank.{supervisor, tracing, bank, usp-after, ssp-after, sr-after, mode-after, slots-of, settle};
+ghost use Rattle.bank.specs.Bank.{supervisor, tracing, bank, mode-after, slots-of, settle};
 use plan::Plan;
 
 pub fn supervisor(sr: u32) -> bool
@@ -78,38 +78,6 @@ pub fn bank(s: &mut [u32; 20])
     *s = r;
 }
 
-// USP and SSP after an instruction: A7 goes back to the one that was active at its start.
-fn usp_after(s: &[u32; 20], r: &[u32; 20]) -> u32
-    ensures { λ q. ⌜ q ≡ usp-after (now (s .entry)) (now (r .entry)) ⌝ }
-{
-    let sup = s[18] / 8192 % 2 == 1;
-    if sup {
-        return r[16];
-    }
-    r[15]
-}
-
-fn ssp_after(s: &[u32; 20], r: &[u32; 20]) -> u32
-    ensures { λ q. ⌜ q ≡ ssp-after (now (s .entry)) (now (r .entry)) ⌝ }
-{
-    let sup = s[18] / 8192 % 2 == 1;
-    if sup {
-        return r[15];
-    }
-    s[16]
-}
-
-// SR after an instruction that began with sr: all of it in supervisor state, the flags in user state.
-fn sr_after(sr: u32, new: u32) -> u32
-    ensures { λ q. ⌜ q ≡ sr-after sr new ⌝ }
-{
-    let sup = supervisor(sr);
-    if sup {
-        return flags::sr_bits(new);
-    }
-    flags::with_ccr(sr, new)
-}
-
 // The mode after an instruction: 1 after a STOP in supervisor state that is not traced, else 0.
 fn mode_after(sr: u32, event: u32) -> u32
     ensures { λ q. ⌜ q ≡ mode-after sr event ⌝ }
@@ -169,16 +137,41 @@ fn slots_of(
     ]
 }
 
-// The slots after an instruction that met no fault: r has the registers, s the slots before it.
+// The slots after an instruction that met no fault: r has the registers, and then the slots; s the slots before it. A7 goes back to the
+// pointer that was active at the start; in user state SSP stays, and of SR only the flags change.
 pub fn settle(r: &mut [u32; 20], s: &[u32; 20], p: Plan)
     ensures { λ _. ⌜ now (r .exit) ≡ settle (now (s .entry)) (now (r .entry)) p ⌝ }
 {
     let f = p.f;
     let old = s[18];
-    let usp = usp_after(s, r);
-    let ssp = ssp_after(s, r);
-    let sr = sr_after(old, f.sr);
     let mode = mode_after(old, p.event);
+    let sup = supervisor(old);
+    if sup {
+        let n = slots_of(
+            r[0],
+            r[1],
+            r[2],
+            r[3],
+            r[4],
+            r[5],
+            r[6],
+            r[7],
+            r[8],
+            r[9],
+            r[10],
+            r[11],
+            r[12],
+            r[13],
+            r[14],
+            r[16],
+            r[15],
+            f.pc,
+            flags::sr_bits(f.sr),
+            mode,
+        );
+        *r = n;
+        return;
+    }
     let n = slots_of(
         r[0],
         r[1],
@@ -195,10 +188,10 @@ pub fn settle(r: &mut [u32; 20], s: &[u32; 20], p: Plan)
         r[12],
         r[13],
         r[14],
-        usp,
-        ssp,
+        r[15],
+        s[16],
         f.pc,
-        sr,
+        flags::with_ccr(old, f.sr),
         mode,
     );
     *r = n;

@@ -75,6 +75,10 @@ module _ (p : Plan) where
   unfolding trap-of
   trap-of-stop t = cc
 
+  trap-of-nothing : p .event ≡ 0 → trap-of p ≡ 0
+  unfolding trap-of
+  trap-of-nothing e = rw e
+
 module _ (s m : List ℕ) (vec : ℕ) where
   pub trap-some : (sr : ℕ) → sr ≡ supervisor-sr (sr-of s) → ltb 0 vec ≡ true → exception s m vec sr ≡ trap s m vec
   unfolding trap
@@ -129,26 +133,26 @@ zero-when-quiet vec trace h = go (eqb vec 0) trace h
 
 -- s₁ is what the code holds of the slots s
 module _ (s m r : List ℕ) (p : Plan) (trace : Bool) (s₁ : List ℕ) (d : s₁ ≡ s) where
-  module _ (t : eqb (p .z) 3 ≡ true) (vec : ℕ) (e : vec ≡ trap-of p) where
-    quiet : (eqb vec 0 && not trace) ≡ true → still s₁ m ≡ after s m r p trace
+  module _ (t : eqb (p .z) 3 ≡ true) where
+    module _ (h : (eqb (p .event) 0 && not trace) ≡ true) where
+      quiet : still s₁ m ≡ after s m r p trace
+      unfolding after
+      quiet =
+          let q = zero-when-quiet (p .event) trace h in
+          let b : still s m ≡ both s m (trap-of p) trace = rw (trap-of-nothing p (eqb-true (p .event) 0 (q .0)), q .1) (both-quiet s m) in cc
+
+      pub after-quiet-slots : s₁ ≡ after s m r p trace .s
+      after-quiet-slots = ap (λ (x : Stepped). x .s) quiet
+
+      pub after-quiet-memory : m ≡ after s m r p trace .m
+      after-quiet-memory = ap (λ (x : Stepped). x .m) quiet
+
+      pub after-quiet-event : 0 ≡ after s m r p trace .event
+      after-quiet-event = ap (λ (x : Stepped). x .event) quiet
+
+    pub after-trap : (vec : ℕ) → vec ≡ trap-of p → both s₁ m vec trace ≡ after s m r p trace
     unfolding after
-    quiet h =
-        let q = zero-when-quiet vec trace h in
-        let z : vec ≡ 0 = eqb-true vec 0 (q .0) in
-        let b : still s m ≡ both s m (trap-of p) trace = rw (sym e ∙ z, q .1) (both-quiet s m) in cc
-
-    pub after-quiet-slots : (eqb vec 0 && not trace) ≡ true → s₁ ≡ after s m r p trace .s
-    after-quiet-slots h = ap (λ (x : Stepped). x .s) (quiet h)
-
-    pub after-quiet-memory : (eqb vec 0 && not trace) ≡ true → m ≡ after s m r p trace .m
-    after-quiet-memory h = ap (λ (x : Stepped). x .m) (quiet h)
-
-    pub after-quiet-event : (eqb vec 0 && not trace) ≡ true → 0 ≡ after s m r p trace .event
-    after-quiet-event h = ap (λ (x : Stepped). x .event) (quiet h)
-
-    pub after-trap : both s₁ m vec trace ≡ after s m r p trace
-    unfolding after
-    after-trap = cc
+    after-trap vec e = cc
 
   module _ (t : eqb (p .z) 3 ≡ false) (n : List ℕ) (e : n ≡ commit m r p) where
     pub after-trace : trace ≡ true → trap s₁ n 9 ≡ after s m r p trace

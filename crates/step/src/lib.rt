@@ -146,11 +146,11 @@ fn after(
     let none = p.z == 3;
     if none {
         bank::settle(r, s, p);
-        let vec = trap_of(p);
-        let quiet = (vec == 0) & !trace;
+        let quiet = (p.event == 0) & !trace;
         if quiet {
             return Ended { n: 0, event: 0 };
         }
+        let vec = trap_of(p);
         return both(r, mem, log, vec, trace);
     }
     let n = commit(mem, log, r, p);

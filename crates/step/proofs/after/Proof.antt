@@ -9,9 +9,8 @@ use Rattle.step.proofs.after.Tie as tie
 pub after-spec : {M : Type 1} → statement M
 after-spec =
     tie.close (tie.spec
-    (λ c κs. search needs) (λ c κs. search needs)
-    (λ c. (search after-quiet-slots, (search after-quiet-memory, (search after-quiet-event, search noted-still))))
-    (λ c κs. search needs) (λ c. search needs) (λ c. search needs)
+    (λ c κs. search needs) (λ c. (search after-quiet-slots, (search after-quiet-memory, (search after-quiet-event, search noted-still))))
+    (λ c κs. search needs) (λ c κs. search needs) (λ c. search needs) (λ c. search needs)
     (λ c. (search (slots-by, after-trap), (search (memory-by, after-trap), (search (event-by, after-trap), search (noted-within, needs)))))
     (λ c κs. search needs) (λ c κs. search needs) (λ c κs. search needs) (λ c. search needs) (λ c. search needs)
     (λ c. (search (slots-by, after-trace), (search (memory-by, after-trace), (search (event-by, after-trace), search (noted-then, needs)))))
