@@ -115,6 +115,15 @@ fn undo_all(slots: &mut [u32; 20], memory: &mut [u8], journal: &[u8], mark: usiz
     }
 }
 
+// Where steps are to be undone: a run, and the undo of it.
+fn run_undone(p: Progress, slots: &mut [u32; 20], memory: &mut [u8], journal: &mut [u8], way: u32) {
+    if way != UNDONE {
+        return;
+    }
+    let part = run_part(p.left, slots, memory, journal);
+    undo_all(slots, memory, journal, part.mark);
+}
+
 fn run_once(
     p: Progress,
     slots: &mut [u32; 20],
@@ -122,32 +131,13 @@ fn run_once(
     journal: &mut [u8],
     way: u32,
 ) -> Progress {
+    run_undone(p, slots, memory, journal, way);
     let part = run_part(p.left, slots, memory, journal);
     let mut next = after(p, part);
     if way == HASHED {
         next.hash = hashed_to(p.hash, journal, part.mark);
     }
     next
-}
-
-// A run, and the undo of it.
-fn run_undone(p: Progress, slots: &mut [u32; 20], memory: &mut [u8], journal: &mut [u8]) {
-    let part = run_part(p.left, slots, memory, journal);
-    undo_all(slots, memory, journal, part.mark);
-}
-
-fn run_next(
-    p: Progress,
-    slots: &mut [u32; 20],
-    memory: &mut [u8],
-    journal: &mut [u8],
-    way: u32,
-) -> Progress {
-    if way == UNDONE {
-        run_undone(p, slots, memory, journal);
-        return run_once(p, slots, memory, journal, way);
-    }
-    run_once(p, slots, memory, journal, way)
 }
 
 // Runs until the steps are done.
@@ -161,7 +151,7 @@ pub fn run_all(
     let mut now = p;
     let mut turns = u64::MAX;
     while turns > 0 && now.left > 0 {
-        now = run_next(now, slots, memory, journal, way);
+        now = run_once(now, slots, memory, journal, way);
         turns -= 1;
     }
     now
