@@ -4,64 +4,19 @@
 //
 // Arguments, in any number: a count of steps tells what that many steps from a reset give; `speed COUNT` only runs
 // them, and `undo COUNT` runs each, undoes it and runs it again: both tell the slots alone. The image is standard
-// input, or the file of an `image FILE` before the counts.
+// input, or the file of an `image FILE` before the counts; `memory BYTES` and `journal BYTES` before them say how much
+// is lent: else 65,536 bytes, and 1,048,576. A memory above 65,536 bytes needs a stack of 20 MiB, as `./run` gives it.
+mod asking;
 mod running;
 
-use libc::STDERR_FILENO;
+use asking::ANY;
+use asking::Asked;
+use asking::IMAGE;
+use asking::NO_COUNT;
 use libc::STDIN_FILENO;
 use libc::STDOUT_FILENO;
+use running::HASHED;
 use running::Progress;
-
-// what the next argument is: a count or a word; a file's name; the count of a word
-const ANY: u32 = 0;
-
-const IMAGE: u32 = 1;
-
-const SPEED: u32 = 2;
-
-const UNDO: u32 = 3;
-
-const NO_COUNT: u64 = 1000000000000;
-
-struct Reading {
-    next: u32,
-    loaded: bool,
-}
-
-fn is_word(text: &[u8], word: &[u8]) -> bool {
-    if text.len() != word.len() {
-        return false;
-    }
-    let mut same = true;
-    for i in 0..word.len() {
-        same = same & (text[i] == word[i]);
-    }
-    same
-}
-
-// A number that is read in base 10; NO_COUNT stands for what is none, and stays.
-fn with_digit(n: u64, c: u8) -> u64 {
-    let d = (c as u64 + 208) % 256;
-    if 9 < d {
-        return NO_COUNT;
-    }
-    if n < NO_COUNT / 10 {
-        return n * 10 + d;
-    }
-    NO_COUNT
-}
-
-// The number below a million millions that text spells in base 10.
-fn count_of(text: &[u8]) -> u64 {
-    if text.len() == 0 {
-        return NO_COUNT;
-    }
-    let mut n: u64 = 0;
-    for i in 0..text.len() {
-        n = with_digit(n, text[i]);
-    }
-    n
-}
 
 // Reads an image; the bytes after it are 0.
 fn load(from: i32, image: &mut [u8; 65536]) {
@@ -93,110 +48,138 @@ fn write_slots(slots: &[u32; 20]) {
     io::write_all(STDOUT_FILENO, b"\n");
 }
 
+fn write_number(label: &[u8], n: u64) {
+    io::write_all(STDOUT_FILENO, label);
+    io::print_decimal(STDOUT_FILENO, n);
+}
+
+fn write_hash(label: &[u8], hash: u32) {
+    io::write_all(STDOUT_FILENO, label);
+    io::print_hex(STDOUT_FILENO, hash as u64, 8);
+}
+
 fn write_progress(p: Progress, memory: &[u8]) {
-    io::write_all(STDOUT_FILENO, b"steps ");
-    io::print_decimal(STDOUT_FILENO, p.steps);
-    io::write_all(STDOUT_FILENO, b" journal ");
-    io::print_decimal(STDOUT_FILENO, p.bytes);
-    io::write_all(STDOUT_FILENO, b" jhash ");
-    io::print_hex(STDOUT_FILENO, p.hash as u64, 8);
-    io::write_all(STDOUT_FILENO, b" memhash ");
-    io::print_hex(STDOUT_FILENO, running::hash_of(memory) as u64, 8);
+    write_number(b"steps ", p.steps);
+    write_number(b" journal ", p.bytes);
+    write_hash(b" jhash ", p.hash);
+    write_hash(b" memhash ", running::hash_of(memory));
     io::write_all(STDOUT_FILENO, b" state ");
 }
 
-fn tell(count: u64, memory: &mut [u8; 65536], journal: &mut [u8; 1048576]) {
+// Runs what is asked, on the memory and the journal that are lent.
+fn run_asked(a: Asked, memory: &mut [u8], journal: &mut [u8]) {
     let mut slots = [0u32; 20];
     machine::reset(&mut slots, memory);
-    let p = running::start(count);
-    let q = running::run_all(p, &mut slots, memory, journal, true);
-    write_progress(q, memory);
+    let p = running::start(a.count);
+    let q = running::run_all(p, &mut slots, memory, journal, a.way);
+    if a.way == HASHED {
+        write_progress(q, memory);
+    }
     write_slots(&slots);
 }
 
-fn speed(count: u64, memory: &mut [u8; 65536], journal: &mut [u8; 1048576]) {
-    let mut slots = [0u32; 20];
-    machine::reset(&mut slots, memory);
-    let p = running::start(count);
-    running::run_all(p, &mut slots, memory, journal, false);
-    write_slots(&slots);
-}
-
-fn undo(count: u64, memory: &mut [u8; 65536], journal: &mut [u8; 1048576]) {
-    let mut slots = [0u32; 20];
-    machine::reset(&mut slots, memory);
-    let p = running::start(count);
-    running::run_all_twice(p, &mut slots, memory, journal);
-    write_slots(&slots);
-}
-
-fn measure(what: u32, count: u64, image: &[u8; 65536]) {
-    if NO_COUNT <= count {
-        io::write_all(STDERR_FILENO, b"bench: an argument is no count\n");
+// Lends as much of both as is asked.
+fn run_lent(a: Asked, memory: &mut [u8], journal: &mut [u8]) {
+    let m = a.memory;
+    let j = a.journal;
+    if memory.len() < m {
         return;
     }
-    let mut memory = *image;
-    let mut journal = [0u8; 1048576];
-    match what {
-        SPEED => speed(count, &mut memory, &mut journal),
-        UNDO => undo(count, &mut memory, &mut journal),
-        _ => tell(count, &mut memory, &mut journal),
+    if journal.len() < j {
+        return;
+    }
+    run_asked(a, &mut memory[0..m], &mut journal[0..j]);
+}
+
+fn copy(image: &[u8; 65536], memory: &mut [u8; 16777216]) {
+    for i in 0..65536usize {
+        memory[i] = image[i];
     }
 }
 
-fn word_of(text: &[u8]) -> u32 {
-    if is_word(text, b"image") {
-        return IMAGE;
-    }
-    if is_word(text, b"speed") {
-        return SPEED;
-    }
-    if is_word(text, b"undo") {
-        return UNDO;
-    }
-    ANY
+fn lend_small(a: Asked, memory: &mut [u8; 65536], journal: &mut [u8; 1048576]) {
+    run_lent(a, memory, journal);
+}
+
+fn lend_large(a: Asked, memory: &mut [u8; 16777216], journal: &mut [u8; 1048576]) {
+    run_lent(a, memory, journal);
+}
+
+fn run_small(a: Asked, image: &[u8; 65536]) {
+    let mut memory = *image;
+    let mut journal = [0u8; 1048576];
+    lend_small(a, &mut memory, &mut journal);
+}
+
+fn run_large(a: Asked, image: &[u8; 65536]) {
+    let mut memory = [0u8; 16777216];
+    let mut journal = [0u8; 1048576];
+    copy(image, &mut memory);
+    lend_large(a, &mut memory, &mut journal);
 }
 
 // What an argument asks.
-fn obey(r: Reading, text: &[u8], image: &mut [u8; 65536]) -> Reading {
-    let next = r.next;
+fn obey(a: Asked, text: &[u8], image: &mut [u8; 65536]) -> Asked {
+    let next = a.next;
+    let mut q = a;
+    q.next = ANY;
+    q.count = NO_COUNT;
     if next == IMAGE {
         load_file(text, image);
-        return Reading {
-            next: ANY,
-            loaded: true,
-        };
+        q.loaded = true;
+        return q;
     }
-    let word = word_of(text);
-    if next == ANY && word != ANY {
-        return Reading {
-            next: word,
-            loaded: r.loaded,
-        };
+    if next == ANY {
+        q.next = asking::word_of(text);
     }
-    if !r.loaded {
-        load(STDIN_FILENO, image);
+    if q.next != ANY {
+        return q;
     }
-    measure(next, count_of(text), image);
-    Reading {
-        next: ANY,
-        loaded: true,
-    }
+    asking::with_number(q, next, asking::count_of(text))
 }
 
-fn obey_argument(r: Reading, i: usize, image: &mut [u8; 65536]) -> Reading {
+// Before the first count: the image, if no file was named.
+fn with_image(a: Asked, image: &mut [u8; 65536]) -> Asked {
+    if a.loaded || a.count == NO_COUNT {
+        return a;
+    }
+    load(STDIN_FILENO, image);
+    let mut q = a;
+    q.loaded = true;
+    q
+}
+
+fn obey_argument(i: usize, a: Asked, image: &mut [u8; 65536]) -> Asked {
     let mut text = io::buffer();
     let n = os::arg(i, &mut text);
-    obey(r, &text[..n], image)
+    let q = obey(a, &text[..n], image);
+    with_image(q, image)
+}
+
+// Obeys the arguments from one place to before another, by halves. A compiler puts no large frame of another function
+// into that of one that calls itself: so a memory of 16 MiB is on the stack only while it is used.
+fn obey_between(from: usize, to: usize, a: Asked, image: &mut [u8; 65536]) -> Asked {
+    if to <= from {
+        return a;
+    }
+    let half = (to - from) / 2;
+    if 0 < half {
+        let q = obey_between(from, from + half, a, image);
+        return obey_between(from + half, to, q, image);
+    }
+    let q = obey_argument(from, a, image);
+    if q.count == NO_COUNT {
+        return q;
+    }
+    if q.memory <= 65536 {
+        run_small(q, image);
+        return q;
+    }
+    run_large(q, image);
+    q
 }
 
 fn main() {
     let mut image = [0u8; 65536];
-    let mut r = Reading {
-        next: ANY,
-        loaded: false,
-    };
-    for i in 1..os::arg_count() {
-        r = obey_argument(r, i, &mut image);
-    }
+    obey_between(1, os::arg_count(), asking::nothing(), &mut image);
 }

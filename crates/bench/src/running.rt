@@ -6,6 +6,13 @@ const STOP: u32 = 4294967295;
 
 const HASH_START: u32 = 2166136261;
 
+// how steps are run: with the journal's hash; alone; or each undone once and done again
+pub const HASHED: u32 = 0;
+
+pub const ALONE: u32 = 1;
+
+pub const UNDONE: u32 = 2;
+
 // How far a run is: steps to do, steps done, journal bytes written and their hash.
 pub struct Progress {
     pub left: u64,
@@ -89,38 +96,6 @@ fn after(p: Progress, part: Part) -> Progress {
     next
 }
 
-fn run_once(
-    p: Progress,
-    slots: &mut [u32; 20],
-    memory: &mut [u8],
-    journal: &mut [u8],
-    hashing: bool,
-) -> Progress {
-    let part = run_part(p.left, slots, memory, journal);
-    let mut next = after(p, part);
-    if hashing {
-        next.hash = hashed_to(p.hash, journal, part.mark);
-    }
-    next
-}
-
-// Runs until the steps are done.
-pub fn run_all(
-    p: Progress,
-    slots: &mut [u32; 20],
-    memory: &mut [u8],
-    journal: &mut [u8],
-    hashing: bool,
-) -> Progress {
-    let mut now = p;
-    let mut turns = u64::MAX;
-    while turns > 0 && now.left > 0 {
-        now = run_once(now, slots, memory, journal, hashing);
-        turns -= 1;
-    }
-    now
-}
-
 // The mark after an undo; 0 if it is refused.
 fn undo_once(slots: &mut [u32; 20], memory: &mut [u8], journal: &[u8], mark: usize) -> usize {
     let answer = machine::undo(slots, memory, journal, mark);
@@ -140,29 +115,43 @@ fn undo_all(slots: &mut [u32; 20], memory: &mut [u8], journal: &[u8], mark: usiz
     }
 }
 
-// A run, the undo of it, and the run again.
-fn run_twice(
-    p: Progress,
-    slots: &mut [u32; 20],
-    memory: &mut [u8],
-    journal: &mut [u8],
-) -> Progress {
+// Where steps are to be undone: a run, and the undo of it.
+fn run_undone(p: Progress, slots: &mut [u32; 20], memory: &mut [u8], journal: &mut [u8], way: u32) {
+    if way != UNDONE {
+        return;
+    }
     let part = run_part(p.left, slots, memory, journal);
     undo_all(slots, memory, journal, part.mark);
-    run_once(p, slots, memory, journal, false)
 }
 
-// Runs until the steps are done; each is undone once and done again.
-pub fn run_all_twice(
+fn run_once(
     p: Progress,
     slots: &mut [u32; 20],
     memory: &mut [u8],
     journal: &mut [u8],
+    way: u32,
+) -> Progress {
+    run_undone(p, slots, memory, journal, way);
+    let part = run_part(p.left, slots, memory, journal);
+    let mut next = after(p, part);
+    if way == HASHED {
+        next.hash = hashed_to(p.hash, journal, part.mark);
+    }
+    next
+}
+
+// Runs until the steps are done.
+pub fn run_all(
+    p: Progress,
+    slots: &mut [u32; 20],
+    memory: &mut [u8],
+    journal: &mut [u8],
+    way: u32,
 ) -> Progress {
     let mut now = p;
     let mut turns = u64::MAX;
     while turns > 0 && now.left > 0 {
-        now = run_twice(now, slots, memory, journal);
+        now = run_once(now, slots, memory, journal, way);
         turns -= 1;
     }
     now

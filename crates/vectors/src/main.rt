@@ -1,7 +1,6 @@
 // main.rt - reads cases from standard input, a line each, and counts those that agree, differ and are skipped.
 // Means: nothing; proved safe.
-// Uses: machine, listing, io, libc, os.  Source: [01 Set down and proved], crates/vectors/README.md.
-mod case;
+// Uses: case, listing, io, libc, os.  Source: [01 Set down and proved], crates/vectors/README.md.
 mod stack;
 
 use case::AGREES;

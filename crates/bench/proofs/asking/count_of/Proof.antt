@@ -1,24 +1,24 @@
 use Prim.Native.Nat.{_≤_, _-_}
 use lib.ListN.{length}
 use borrow.Author.Needs.{needs}
-use Rattle.bench.proofs.is_word.Statement.{statement}
-use Rattle.bench.proofs.is_word.Tie as tie
+use Rattle.bench.proofs.asking.count_of.Statement.{statement}
+use Rattle.bench.proofs.asking.count_of.Tie as tie
 
 abbrev Inv-loop : tie.InvT-loop
-Inv-loop text word same₀ i₀ i-end same i = i ≤ length word
+Inv-loop text n₀ i₀ i-end n i = i ≤ length text
 
 abbrev μ-loop : tie.MeasureT-loop
-μ-loop text word same₀ i₀ i-end same i = length word - i
+μ-loop text n₀ i₀ i-end n i = length text - i
 
-pub is-word-spec : {M : Type 1} → statement M
-is-word-spec =
+pub count-of-spec : {M : Type 1} → statement M
+count-of-spec =
     tie.close (tie.spec
     Inv-loop
     μ-loop
     (λ c. search needs)
     (λ c. search needs)
     (λ c. search needs)
-    (λ c. search needs)
+    (λ c κs. search needs)
     (λ c. search needs)
     (λ c. search needs)
     (λ c. search needs)

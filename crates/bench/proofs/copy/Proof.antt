@@ -1,24 +1,22 @@
 use Prim.Native.Nat.{_≤_, _-_}
-use lib.ListN.{length}
 use borrow.Author.Needs.{needs}
-use Rattle.bench.proofs.count_of.Statement.{statement}
-use Rattle.bench.proofs.count_of.Tie as tie
+use Rattle.bench.proofs.copy.Statement.{statement}
+use Rattle.bench.proofs.copy.Tie as tie
 
 abbrev Inv-loop : tie.InvT-loop
-Inv-loop text n₀ i₀ i-end n i = i ≤ length text
+Inv-loop image memory₀ i₀ memory i = i ≤ 65536
 
 abbrev μ-loop : tie.MeasureT-loop
-μ-loop text n₀ i₀ i-end n i = length text - i
+μ-loop image memory₀ i₀ memory i = 65536 - i
 
-pub count-of-spec : {M : Type 1} → statement M
-count-of-spec =
+pub copy-spec : {M : Type 1} → statement M
+copy-spec =
     tie.close (tie.spec
     Inv-loop
     μ-loop
     (λ c. search needs)
     (λ c. search needs)
     (λ c. search needs)
-    (λ c κs. search needs)
     (λ c. search needs)
     (λ c. search needs)
     (λ c. search needs)

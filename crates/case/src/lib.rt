@@ -1,4 +1,4 @@
-// case.rt - one case: its step and the undo of it, each compared whole with what the line lists.
+// lib.rt - one case: its step and the undo of it, each compared whole with what the line lists.
 // Means: nothing; proved safe.
 // Uses: machine, listing.  Source: [01 Calls and what they give back], crates/vectors/README.md.
 use listing::setting::change_slots;
