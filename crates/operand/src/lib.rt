@@ -26,7 +26,8 @@ pub struct Both {
     pub q: Operand,
 }
 
-// A register's value, 0 where there is none: 0 to 7 are D0 to D7, 8 to 15 A0 to A7 (the active one), 16 USP in supervisor state.
+// A register's value, 0 where there is none: 0 to 7 are D0 to D7, 8 to 15 A0 to A7 (the active one), 16 USP in supervisor state. The three
+// places behind them hold PC, SR and mode as they were, and no instruction reaches them.
 pub fn get(r: &[u32; 20], i: u32) -> u32
     ensures { λ q. ⌜ q ≡ get (now (r .entry)) i ⌝ }
 {

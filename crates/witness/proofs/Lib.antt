@@ -2,3 +2,4 @@ pub mod MarksLaws
 pub mod ShiftRowsLaws
 pub mod DivideRowsLaws
 pub mod RowsLaws
+pub mod FormulaLaws

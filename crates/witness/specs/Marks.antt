@@ -1,5 +1,5 @@
 -- Marks.antt - how a condition-code row of 003 is written down, and what it is for a result and its flags to obey it.
--- 003's * stands for three signs here: the general rule of A-1, "cleared or kept", and a formula of A-1 that is the definition itself.
+-- 003's * stands for three signs here: the general rule of A-1, "cleared or kept", and a formula of A-1, of which specs/Formulas.antt speaks.
 -- Laws: proofs/MarksLaws.antt.  Source: [003 A-1], [003 B], [01 Arithmetic].
 use Prim.Native.Nat.{ℕ}
 use mathlib.Core.Path.{_≡_}
