@@ -1,19 +1,15 @@
 -- Number.antt - the journal's numbers: seven bits to a group, the highest first, as few groups as possible; read from the end.
 -- Met by: src/lib.rt.  Laws: proofs/NumberLaws.antt, proofs/WrittenLaws.antt, proofs/PutLaws.antt.  Examples: specs/Examples.antt.
--- Uses: nothing.  Source: [01 The journal].
+-- Uses: bits.  Source: [01 The journal].
 use Prim.Native.Nat.{ℕ, zero, suc, _+_, _-_, _*_, _/_, _%_, _^_, _<_}
 use mathlib.Core.Path.{_≡_}
 use mathlib.Core.List.{List, [], _∷_, _++_, reverse}
 use mathlib.Core.Bool.{Bool, true, false}
 use lib.ListN.{length, take, drop}
 use lib.Dec.{ltb, eqb}
+use Rattle.bits.specs.Bits.{pick}
 use Rattle.numbers.specs.declared.Reading.{Reading}
 use Rattle.numbers.specs.declared.Reading.the-variants.{Number, Bad}
-
--- A choice by a truth value. [ours]
-abbrev pub pick : {A : Type 0} → Bool → A → A → A
-pick true x y = x
-pick false x y = y
 
 -- Both of two truth values. [ours]
 abbrev pub both : Bool → Bool → Bool

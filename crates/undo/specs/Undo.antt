@@ -1,13 +1,14 @@
 -- Undo.antt - the last record of a journal, read from its end; whether it is well formed; and what undoing it gives.
 -- Met by: src/lib.rt.  Laws: proofs/ReadLaws, JudgeLaws, ShapeLaws, UndoLaws, ManyLaws.
--- Uses: record, numbers.  Source: [01 The journal].
+-- Uses: record, numbers, bits.  Source: [01 The journal].
 use Prim.Native.Nat.{ℕ, zero, suc, _≤_, _<_}
 use mathlib.Core.Path.{_≡_}
 use mathlib.Core.List.{List, [], _∷_}
 use mathlib.Core.Bool.{Bool, true, false, not}
 use lib.ListN.{length, getD}
 use lib.Dec.{eqb, ltb, leb}
-use Rattle.numbers.specs.Number.{pick, both, Got, got, bad, read-number, back}
+use Rattle.bits.specs.Bits.{pick}
+use Rattle.numbers.specs.Number.{both, Got, got, bad, read-number, back}
 use Rattle.record.specs.Limits.{slot-limit, byte-limit, valid-value, valid-byte}
 use Rattle.record.specs.Change.{Change, Ascending, changes, restore}
 use Rattle.undo.specs.declared.Run.{Run}
