@@ -1,8 +1,8 @@
 // classes.rt - the classes of addressing modes as 64 bits, and the test whether one allows a word's low six bits.
 // Means: fit in specs/Chain.antt.
-// Uses: nothing.  Source: [003 B-1].
+// Uses: bits.  Source: [003 B-1].
 ghost use mathlib.Core.Path.{_≡_};
-ghost use Rattle.decode.specs.Rows.{pick};
+ghost use Rattle.bits.specs.Bits.{pick};
 ghost use Rattle.decode.specs.Chain.{fit};
 
 // the low six bits that a class of modes allows: bit n is set where n is allowed [003 B-1]

@@ -1,6 +1,6 @@
 // lib.rt - operation word to kind, and which kinds are privileged. The word alone decides; extension words are not read.
 // Means: kind-of and privileged in specs/Rows.antt, of-word in specs/Chain.antt.  Laws: proofs/RowsLaws.antt, proofs/AgreementLaws.antt.
-// Uses: kinds, classes, lines, line_four.  Source: [003 B], [01 step 4].
+// Uses: bits, kinds, classes, lines, line_four.  Source: [003 B], [01 step 4].
 ghost use mathlib.Core.Path.{_≡_};
 ghost use Rattle.decode.specs.Rows.{kind-of, privileged};
 ghost use Rattle.decode.specs.Chain.{of-word};

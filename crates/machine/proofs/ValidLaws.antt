@@ -11,6 +11,7 @@ use native.Mathlib.Omega.{arith}
 use lib.ListN.{length, getD, List·getD-eq-default}
 use lib.Dec.{ltb, leb, eqb}
 use borrow.Author.Tests.{le-leb, leb-true, eqb-true, ltb-true, ltb-false}
+use Rattle.bits.proofs.BitsLaws.{and-left, and-right}
 use Rattle.bank.specs.Bank.{sr-of, mode-of}
 use Rattle.record.specs.Limits.{slot-limit, longest-record, status-slot, mode-slot, valid-status, valid-value, Each, ValidSlots, ValidBytes}
 use Rattle.record.specs.Change.{step-record}
@@ -35,14 +36,6 @@ pub record Valid (s m : List ℕ) : Type 0 where
   pub fits : memory-fits m ≡ true
 
 -- ---- the tests of the calls
-pub and-left : (a b : Bool) → (a && b) ≡ true → a ≡ true
-and-left true b e = refl
-and-left false b e = e
-
-pub and-right : (a b : Bool) → (a && b) ≡ true → b ≡ true
-and-right true b e = e
-and-right false b e = absurd (let z : _≡_ {A = ℕ} 0 1 = cc in omega arith)
-
 -- a memory that fits
 pub fits-inv : (m : List ℕ) → memory-fits m ≡ true → (length m % 2 ≡ 0) × (1024 ≤ length m) × (length m ≤ 16777216)
 fits-inv m e =

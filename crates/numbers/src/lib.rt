@@ -1,6 +1,6 @@
 // lib.rt - the journal's numbers: written at a place, and read back from the place where they end.
 // Means: specs/Number.antt.  Laws: proofs/NumberLaws.antt, proofs/WrittenLaws.antt, proofs/PutLaws.antt, proofs/ExampleLaws.antt.
-// Uses: nothing.  Source: [01 The journal].
+// Uses: bits.  Source: [01 The journal].
 ghost use mathlib.Core.Path.{_≡_};
 ghost use Prim.Native.Nat.{_+_, _-_, _*_, _^_, _≤_, _<_};
 ghost use lib.ListN.{length};

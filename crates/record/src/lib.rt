@@ -1,6 +1,6 @@
 // lib.rt - the record of a step: what differs, with its old values, written at the mark.
 // Means: specs/Change.antt, specs/Mask.antt.  Laws: proofs/ChangeLaws.antt, proofs/DiffLaws.antt, proofs/KeptLaws.antt, proofs/MaskLaws.antt, proofs/SizeLaws.antt.
-// Uses: numbers.  Source: [01 The journal].
+// Uses: numbers, bits.  Source: [01 The journal].
 pub mod limits;
 
 use limits::SLOT_LIMIT;

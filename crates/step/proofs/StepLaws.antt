@@ -9,6 +9,7 @@ use mathlib.Core.List.{List}
 use lib.Dec.{ltb, eqb}
 use borrow.Author.Tests.{eqb-true}
 use Rattle.bits.specs.Bits.{pick, bit}
+use Rattle.bits.proofs.BitsLaws.{and-left, and-right}
 use Rattle.bus.specs.declared.Flow.{Flow}
 use Rattle.bus.specs.declared.Fetched.{Fetched}
 use Rattle.bus.specs.Bus.{View, view-of, next-word, room, put-sized}
@@ -123,13 +124,9 @@ both-quiet : (s m : List ℕ) → still s m ≡ both s m 0 false
 unfolding both trap traced
 both-quiet s m = cc
 
-zero-when-quiet : (vec : ℕ) (trace : Bool) → (eqb vec 0 && not trace) ≡ true → (eqb vec 0 ≡ true) × (trace ≡ false)
-zero-when-quiet vec trace h = go (eqb vec 0) trace h
-  where
-    go : (a b : Bool) → (a && not b) ≡ true → (a ≡ true) × (b ≡ false)
-    go true true h = (refl, absurd (let z : _≡_ {A = ℕ} 0 1 = cc in omega arith))
-    go true false h = (refl, refl)
-    go false b h = (h, absurd (let z : _≡_ {A = ℕ} 0 1 = cc in omega arith))
+not-when-true : (b : Bool) → not b ≡ true → b ≡ false
+not-when-true true e = absurd (let z : _≡_ {A = ℕ} 0 1 = cc in omega arith)
+not-when-true false e = refl
 
 -- s₁ is what the code holds of the slots s
 module _ (s m r : List ℕ) (p : Plan) (trace : Bool) (s₁ : List ℕ) (d : s₁ ≡ s) where
@@ -138,8 +135,9 @@ module _ (s m r : List ℕ) (p : Plan) (trace : Bool) (s₁ : List ℕ) (d : s�
       quiet : still s₁ m ≡ after s m r p trace
       unfolding after
       quiet =
-          let q = zero-when-quiet (p .event) trace h in
-          let b : still s m ≡ both s m (trap-of p) trace = rw (trap-of-nothing p (eqb-true (p .event) 0 (q .0)), q .1) (both-quiet s m) in cc
+          let none = trap-of-nothing p (eqb-true (p .event) 0 (and-left (eqb (p .event) 0) (not trace) h)) in
+          let untraced = not-when-true trace (and-right (eqb (p .event) 0) (not trace) h) in
+          let b : still s m ≡ both s m (trap-of p) trace = rw (none, untraced) (both-quiet s m) in cc
 
       pub after-quiet-slots : s₁ ≡ after s m r p trace .s
       after-quiet-slots = ap (λ (x : Stepped). x .s) quiet

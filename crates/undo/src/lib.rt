@@ -1,6 +1,6 @@
 // lib.rt - undo: the last record of a journal is read from its end, judged, and put back.
 // Means: specs/Undo.antt.  Laws: proofs/ReadLaws, JudgeLaws, ShapeLaws, UndoLaws, ManyLaws.
-// Uses: record, numbers.  Source: [01 The journal].
+// Uses: record, numbers, bits.  Source: [01 The journal].
 use numbers::Reading;
 use numbers::read_number;
 use record::limits::BYTE_LIMIT;
