@@ -1,13 +1,12 @@
 -- StepLaws.antt - one law for each return of the functions of step, as an equation of whole outcomes where that can be had.
 -- slots-by, memory-by, event-by take a part of such an equation.
 -- Uses: bits, bus, plan, bank, exception, execute.
-use Prim.Native.Nat.{ℕ, _+_, _*_, _%_, _/_, _<_}
-use native.Mathlib.Omega.{arith}
-use mathlib.Core.Path.{_≡_, refl, sym, ap, _∙_}
+use Prim.Native.Nat.{ℕ, _*_, _%_, _/_}
+use mathlib.Core.Path.{_≡_, ap}
 use mathlib.Core.Bool.{Bool, true, false, _&&_, _||_, not}
 use mathlib.Core.List.{List}
 use lib.Dec.{ltb, eqb}
-use borrow.Author.Tests.{eqb-true}
+use borrow.Author.Tests.{eqb-true, not-true}
 use Rattle.bits.specs.Bits.{pick, bit}
 use Rattle.bits.proofs.BitsLaws.{and-left, and-right}
 use Rattle.bus.specs.declared.Flow.{Flow}
@@ -124,10 +123,6 @@ both-quiet : (s m : List ℕ) → still s m ≡ both s m 0 false
 unfolding both trap traced
 both-quiet s m = cc
 
-not-when-true : (b : Bool) → not b ≡ true → b ≡ false
-not-when-true true e = absurd (let z : _≡_ {A = ℕ} 0 1 = cc in omega arith)
-not-when-true false e = refl
-
 -- s₁ is what the code holds of the slots s
 module _ (s m r : List ℕ) (p : Plan) (trace : Bool) (s₁ : List ℕ) (d : s₁ ≡ s) where
   module _ (t : eqb (p .z) 3 ≡ true) where
@@ -136,7 +131,7 @@ module _ (s m r : List ℕ) (p : Plan) (trace : Bool) (s₁ : List ℕ) (d : s�
       unfolding after
       quiet =
           let none = trap-of-nothing p (eqb-true (p .event) 0 (and-left (eqb (p .event) 0) (not trace) h)) in
-          let untraced = not-when-true trace (and-right (eqb (p .event) 0) (not trace) h) in
+          let untraced = not-true trace (and-right (eqb (p .event) 0) (not trace) h) in
           let b : still s m ≡ both s m (trap-of p) trace = rw (none, untraced) (both-quiet s m) in cc
 
       pub after-quiet-slots : s₁ ≡ after s m r p trace .s
