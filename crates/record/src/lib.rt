@@ -110,6 +110,8 @@ fn put_bytes(journal: &mut [u8], at: usize, memory: &[u8], log: &[u64], n: usize
 }
 
 // Writes the record of a step at the mark, and returns the new mark. The log has each place that was written, with its value before the step.
+// Most steps write no memory: they take the short way. And since put_slots stands at two places, the compiler keeps it apart: it is slower
+// within a step's other code.
 pub fn put_record(
     journal: &mut [u8],
     mark: usize,
