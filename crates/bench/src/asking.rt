@@ -1,6 +1,6 @@
 // asking.rt - what the arguments ask: the words, their numbers, and what is to be run next.
 // Means: nothing; proved safe.
-// Uses: running, io, libc.  Source: [ours]; the lengths are those of [01 Calls and what they give back].
+// Uses: running, stack, io, libc.  Source: [ours]; the lengths are those of [01 Calls and what they give back].
 use crate::running::ALONE;
 use crate::running::HASHED;
 use crate::running::UNDONE;
@@ -96,10 +96,18 @@ pub fn count_of(text: &[u8]) -> u64 {
     n
 }
 
+// The longest memory that the stack has room for, as far as that is told.
+fn most_memory() -> u64 {
+    if stack::is_large() {
+        return 16777216;
+    }
+    65536
+}
+
 // Whether a number can be what the next argument is. A journal of fewer than 536 bytes has no room for a step.
 fn fits(next: u32, n: u64) -> bool {
     match next {
-        MEMORY => 1024 <= n && n <= 16777216 && n % 2 == 0,
+        MEMORY => 1024 <= n && n <= most_memory() && n % 2 == 0,
         JOURNAL => 536 <= n && n <= 1048576,
         _ => n < NO_COUNT,
     }

@@ -5,7 +5,7 @@
 // Arguments, in any number: a count of steps tells what that many steps from a reset give; `speed COUNT` only runs
 // them, and `undo COUNT` runs each, undoes it and runs it again: both tell the slots alone. The image is standard
 // input, or the file of an `image FILE` before the counts; `memory BYTES` and `journal BYTES` before them say how much
-// is lent: else 65,536 bytes, and 1,048,576. A memory above 65,536 bytes needs a stack of 20 MiB, as `./run` gives it.
+// is lent: else 65,536 bytes, and 1,048,576. A memory above 65,536 bytes needs a stack of 64 MiB, as `./run` gives it.
 mod asking;
 mod running;
 

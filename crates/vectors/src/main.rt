@@ -1,8 +1,6 @@
 // main.rt - reads cases from standard input, a line each, and counts those that agree, differ and are skipped.
 // Means: nothing; proved safe.
-// Uses: case, listing, io, libc, os.  Source: [01 Set down and proved], crates/vectors/README.md.
-mod stack;
-
+// Uses: case, listing, stack, io, libc, os.  Source: [01 Set down and proved], crates/vectors/README.md.
 use case::AGREES;
 use case::SKIPPED;
 use libc::STDOUT_FILENO;

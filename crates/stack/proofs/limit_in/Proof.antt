@@ -1,8 +1,8 @@
 use Prim.Native.Nat.{_≤_, _-_}
 use lib.ListN.{length}
 use borrow.Author.Needs.{needs}
-use Rattle.vectors.proofs.stack.limit_in.Statement.{statement}
-use Rattle.vectors.proofs.stack.limit_in.Tie as tie
+use Rattle.stack.proofs.limit_in.Statement.{statement}
+use Rattle.stack.proofs.limit_in.Tie as tie
 
 abbrev Inv-loop : tie.InvT-loop
 Inv-loop text word from l₀ i₀ i-end l i = i ≤ length text

@@ -1,4 +1,4 @@
-// stack.rt - how much stack the program may use, as the system tells it.
+// lib.rt - how much stack a program may use, as the system tells it.
 // Means: nothing; proved safe.
 // Uses: os, io, libc.  Source: [ours]; the file is Linux's table of a process's limits.
 ghost use Prim.Native.Nat.{_≤_};

@@ -1,8 +1,8 @@
 use Prim.Native.Nat.{_≤_, _-_}
 use lib.ListN.{length}
 use borrow.Author.Needs.{needs}
-use Rattle.vectors.proofs.stack.find.Statement.{statement}
-use Rattle.vectors.proofs.stack.find.Tie as tie
+use Rattle.stack.proofs.find.Statement.{statement}
+use Rattle.stack.proofs.find.Tie as tie
 
 abbrev Inv-loop : tie.InvT-loop
 Inv-loop text word i₀ i-end i = i ≤ length text

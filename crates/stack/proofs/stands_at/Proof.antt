@@ -1,8 +1,8 @@
 use Prim.Native.Nat.{_≤_, _-_}
 use lib.ListN.{length}
 use borrow.Author.Needs.{needs}
-use Rattle.vectors.proofs.stack.stands_at.Statement.{statement}
-use Rattle.vectors.proofs.stack.stands_at.Tie as tie
+use Rattle.stack.proofs.stands_at.Statement.{statement}
+use Rattle.stack.proofs.stands_at.Tie as tie
 
 abbrev Inv-loop : tie.InvT-loop
 Inv-loop text word at same₀ i₀ i-end same i = i ≤ length word
