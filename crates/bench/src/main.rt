@@ -6,6 +6,7 @@
 // them, and `undo COUNT` runs each, undoes it and runs it again: both tell the slots alone. The image is standard
 // input, or the file of an `image FILE` before the counts; `memory BYTES` and `journal BYTES` before them say how much
 // is lent: else 65,536 bytes, and 1,048,576. A memory above 65,536 bytes needs a stack of 64 MiB, as `./run` gives it.
+// An argument that is none of these, or a length that cannot be lent, is told on standard error and passed over.
 mod asking;
 mod running;
 
