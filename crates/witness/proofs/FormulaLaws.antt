@@ -1,13 +1,13 @@
 -- FormulaLaws.antt - V and C of every sum, difference and negation, with X or without, are those of Table A-1's formulas.
 -- sum-by-formula, difference-by-formula, negation-by-formula: for all operands and sizes. V is the formula by definition; C is a carry there.
 -- Uses: bits, alu.
-use Prim.Native.Nat.{ℕ, _+_, _-_, _%_, _≤_, _<_}
+use Prim.Native.Nat.{ℕ, suc, _+_, _-_, _%_, _≤_, _<_}
 use native.Mathlib.Nat.{mod-lt, mod-eq-of-lt}
 use native.Mathlib.Omega.{arith}
 use mathlib.Core.Path.{_≡_, refl, ap, _∙_}
 use mathlib.Core.Bool.{Bool, true, false, not}
 use lib.Dec.{ltb, leb, eqb}
-use borrow.Author.Tests.{leb-true, leb-false, ltb-true, ltb-false}
+use borrow.Author.Tests.{leb-true, leb-false}
 use Rattle.bits.specs.Bits.{pick, bit, by-size, modulus, half, low}
 use Rattle.bits.proofs.BitsLaws.{bit-bound}
 use Rattle.alu.specs.Alu.{sum, difference}
@@ -20,13 +20,6 @@ leb-cases P a b f g = go (leb a b) refl
     go : (t : Bool) → leb a b ≡ t → P (leb a b)
     go true e = rw e (f (leb-true a b e))
     go false e = rw e (g (leb-false a b e))
-
-ltb-cases : (P : Bool → Type 0) (a b : ℕ) → (a < b → P true) → (b ≤ a → P false) → P (ltb a b)
-ltb-cases P a b f g = go (ltb a b) refl
-  where
-    go : (t : Bool) → ltb a b ≡ t → P (ltb a b)
-    go true e = rw e (f (ltb-true a b e))
-    go false e = rw e (g (ltb-false a b e))
 
 -- M values, of which H have the top bit: d and s make t, of which r is left
 module _ (H M d s t r : ℕ) (m : M ≡ H + H) (hd : d < M) (hs : s < M) (hr : r < M) where
@@ -53,7 +46,7 @@ module _ (H M d s t r : ℕ) (m : M ≡ H + H) (hd : d < M) (hs : s < M) (hr : r
   -- here t is what is taken from d
   borrows : s ≤ t → t ≤ s + 1 → (t ≤ d → r + t ≡ d) → (d < t → r + t ≡ d + M) → ltb d t ≡ difference-borrow (leb H s) (leb H d) (leb H r)
   borrows lo hi inside beyond =
-      ltb-cases (λ C. C ≡ difference-borrow (leb H s) (leb H d) (leb H r)) d t
+      leb-cases (λ C. C ≡ difference-borrow (leb H s) (leb H d) (leb H r)) (suc d) t
       (λ c. let e = beyond c in
       leb-cases (λ S. true ≡ difference-borrow S (leb H d) (leb H r)) H s
       (λ S. leb-cases (λ D. true ≡ difference-borrow true D (leb H r)) H d
@@ -62,7 +55,7 @@ module _ (H M d s t r : ℕ) (m : M ≡ H + H) (hd : d < M) (hs : s < M) (hr : r
       (λ S. leb-cases (λ D. true ≡ difference-borrow false D (leb H r)) H d
       (λ D. absurd (omega arith))
       (λ D. leb-cases (λ R. true ≡ difference-borrow false false R) H r (λ R. refl) (λ R. absurd (omega arith)))))
-      (λ c. let e = inside c in
+      (λ c. let e = inside (omega arith) in
       leb-cases (λ S. false ≡ difference-borrow S (leb H d) (leb H r)) H s
       (λ S. leb-cases (λ D. false ≡ difference-borrow true D (leb H r)) H d
       (λ D. leb-cases (λ R. false ≡ difference-borrow true true R) H r (λ R. absurd (omega arith)) (λ R. refl))
