@@ -115,7 +115,7 @@ module _ (s m j l : List ℕ) (level vector mark : ℕ) (valid : Valid s m) (roo
     unfolding step-taken
     taken-journal = q2 ∙ ap (λ (b : List ℕ). written j mark b) recorded
 
-    pub taken-answer : record { number = 0; mark = r; event = ev } ≡ step-taken s m level vector j mark .a
+    pub taken-answer : record { number = 0; event = ev; mark = r } ≡ step-taken s m level vector j mark .a
     unfolding step-taken
     taken-answer = let q : r ≡ mark + length (step-record s (one-step s m level vector .s) m (one-step s m level vector .m)) = q1 ∙ ap (λ (b : List ℕ). mark + length b) recorded in cc
 
@@ -174,7 +174,7 @@ module _ (s m : List ℕ) (level vector : ℕ) (j : List ℕ) (mark k : ℕ) (e 
           answer = t ∙ ap (λ (c : StepCall). c .a) c;
         }
 
-  pub step-refused-promised : eqb k 0 ≡ false → StepPromise s m level vector j mark s m j (record { number = k; mark = mark; event = 0 })
+  pub step-refused-promised : eqb k 0 ≡ false → StepPromise s m level vector j mark s m j (record { number = k; event = 0; mark = mark })
   unfolding step-call
   step-refused-promised z = let y : eqb (step-number s m level j mark) 0 ≡ false = rw e at z in record { slots = rw y; memory = rw y; journal = rw y; answer = rw (y, e) }
 
@@ -201,7 +201,7 @@ module _ (s m : List ℕ) (budget stop : ℕ) (j : List ℕ) (mark k : ℕ) (e :
           answer = t ∙ ap (λ (c : RunCall). c .a) run-called;
         }
 
-  pub run-refused-promised : eqb k 0 ≡ false → RunPromise s m budget stop j mark s m j (record { number = k; mark = mark; reason = 0; steps = 0 })
+  pub run-refused-promised : eqb k 0 ≡ false → RunPromise s m budget stop j mark s m j (record { number = k; reason = 0; mark = mark; steps = 0 })
   unfolding run-call
   run-refused-promised z = let y : eqb (run-number s m budget j mark) 0 ≡ false = rw e at z in record { slots = rw y; memory = rw y; journal = rw y; answer = rw (y, e) }
 

@@ -2,6 +2,7 @@ pub mod ValidLaws
 pub mod RefusalLaws
 pub mod StatusLaws
 pub mod PromiseLaws
+pub mod SlotsLaws
 pub mod ActLaws
 pub mod FrameLaws
 pub mod RunLaws

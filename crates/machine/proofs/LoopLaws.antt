@@ -92,5 +92,5 @@ module _ (b stop : ℕ) (s₀ m₀ j₀ : List ℕ) (mark₀ : ℕ) (l₀ s m j 
   going-requires h = (i .memory, (let k = ltb-false (length j - mark) longest-record h in let d = i .inside in omega arith), i .room, i .state)
 
 -- the parts of a run's answer
-pub parts-of-run : {k n mark : ℕ} {s m j : List ℕ} {o : RunCall} → ended k n s m j mark ≡ o → (s ≡ o .s) × ((m ≡ o .m) × ((j ≡ o .j) × (record { number = 0; mark = mark; reason = k; steps = n } ≡ o .a)))
+pub parts-of-run : {k n mark : ℕ} {s m j : List ℕ} {o : RunCall} → ended k n s m j mark ≡ o → (s ≡ o .s) × ((m ≡ o .m) × ((j ≡ o .j) × (record { number = 0; reason = k; mark = mark; steps = n } ≡ o .a)))
 parts-of-run e = (ap (λ (o : RunCall). o .s) e, (ap (λ (o : RunCall). o .m) e, (ap (λ (o : RunCall). o .j) e, ap (λ (o : RunCall). o .a) e)))

@@ -167,7 +167,7 @@ module _ (s m : List ℕ) (level : ℕ) (j : List ℕ) (mark : ℕ) where
     step-accepted e = rw (eq-eqb (step-number s m level j mark) 0 (sym step-call-number ∙ e))
 
     pub step-refused : (step-call s m level vector j mark .a .number ≡ 0 → ⊥)
-        → step-call s m level vector j mark ≡ record { s = s; m = m; j = j; a = record { number = step-call s m level vector j mark .a .number; mark = mark; event = 0 } }
+        → step-call s m level vector j mark ≡ record { s = s; m = m; j = j; a = record { number = step-call s m level vector j mark .a .number; event = 0; mark = mark } }
     unfolding step-call
     step-refused h = rw (ne-eqb (step-number s m level j mark) 0 (λ e. h (step-call-number ∙ e)))
 
@@ -241,7 +241,7 @@ module _ (s m : List ℕ) (budget : ℕ) (j : List ℕ) (mark : ℕ) where
     run-accepted e = rw (eq-eqb (run-number s m budget j mark) 0 (sym run-call-number ∙ e))
 
     pub run-refused : (run-call s m budget stop j mark .a .number ≡ 0 → ⊥)
-        → run-call s m budget stop j mark ≡ record { s = s; m = m; j = j; a = record { number = run-call s m budget stop j mark .a .number; mark = mark; reason = 0; steps = 0 } }
+        → run-call s m budget stop j mark ≡ record { s = s; m = m; j = j; a = record { number = run-call s m budget stop j mark .a .number; reason = 0; mark = mark; steps = 0 } }
     unfolding run-call
     run-refused h = rw (ne-eqb (run-number s m budget j mark) 0 (λ e. h (run-call-number ∙ e)))
 

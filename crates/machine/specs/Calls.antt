@@ -71,12 +71,12 @@ unfoldable pub step-taken : List ℕ → List ℕ → ℕ → ℕ → List ℕ �
 step-taken s m level vector j mark =
     let t = one-step s m level vector in
     let b = step-record s (t .s) m (t .m) in
-    record { s = t .s; m = t .m; j = written j mark b; a = record { number = 0; mark = mark + length b; event = t .event } }
+    record { s = t .s; m = t .m; j = written j mark b; a = record { number = 0; event = t .event; mark = mark + length b } }
 
 unfoldable pub step-call : List ℕ → List ℕ → ℕ → ℕ → List ℕ → ℕ → StepCall
 step-call s m level vector j mark =
     let n = step-number s m level j mark in
-    pick (eqb n 0) (step-taken s m level vector j mark) (record { s = s; m = m; j = j; a = record { number = n; mark = mark; event = 0 } })
+    pick (eqb n 0) (step-taken s m level vector j mark) (record { s = s; m = m; j = j; a = record { number = n; event = 0; mark = mark } })
 
 -- ---- run
 
@@ -96,7 +96,7 @@ run-number s m budget j mark =
 
 -- a run ended by a reason, with n steps done  [01 Calls, Run]
 abbrev pub ended : ℕ → ℕ → List ℕ → List ℕ → List ℕ → ℕ → RunCall
-ended reason n s m j mark = record { s = s; m = m; j = j; a = record { number = 0; mark = mark; reason = reason; steps = n } }
+ended reason n s m j mark = record { s = s; m = m; j = j; a = record { number = 0; reason = reason; mark = mark; steps = n } }
 
 -- what is left of a run, k of its budget, with n steps done: the reasons in their order, and a step with level 0  [01 Calls, Run]
 unfoldable pub running : ℕ → ℕ → ℕ → List ℕ → List ℕ → List ℕ → ℕ → RunCall
@@ -112,7 +112,7 @@ running (suc k) n stop s m j mark =
 unfoldable pub run-call : List ℕ → List ℕ → ℕ → ℕ → List ℕ → ℕ → RunCall
 run-call s m budget stop j mark =
     let n = run-number s m budget j mark in
-    pick (eqb n 0) (running budget 0 stop s m j mark) (record { s = s; m = m; j = j; a = record { number = n; mark = mark; reason = 0; steps = 0 } })
+    pick (eqb n 0) (running budget 0 stop s m j mark) (record { s = s; m = m; j = j; a = record { number = n; reason = 0; mark = mark; steps = 0 } })
 
 -- ---- undo
 

@@ -13,23 +13,28 @@ use record::limits::BYTE_LIMIT;
 use record::limits::LONGEST_RECORD;
 use undo::Answer;
 
-// A step's answer: the refusal's number or 0, the mark, and the event: 0 nothing, 1 more than the vector that was taken first, 257 a
-// halt.
+// The answers are C's structs: the calls from C (crate ibezofanle) hand them on, and c/ibezofanle.h declares them. New members go to
+// the end.
+
+// A step's answer: the refusal's number or 0; the event: 0 nothing, 1 more than the vector that was taken first, 257 a halt; the mark.
+#[repr(C)]
 pub struct StepAnswer {
     pub number: u32,
-    pub mark: usize,
     pub event: u32,
+    pub mark: usize,
 }
 
-// A run's answer: the refusal's number or 0, the mark, the reason why it ended, and the number of steps done.
+// A run's answer: the refusal's number or 0, the reason why it ended, the mark, and the number of steps done.
+#[repr(C)]
 pub struct RunAnswer {
     pub number: u32,
-    pub mark: usize,
     pub reason: u32,
+    pub mark: usize,
     pub steps: u32,
 }
 
 // An undo's answer: the refusal's number or 0, and the mark.
+#[repr(C)]
 pub struct UndoAnswer {
     pub number: u32,
     pub mark: usize,
@@ -185,8 +190,8 @@ fn step_taken(
     let next = record::put_record(journal, mark, &old, slots, memory, log, e.n);
     StepAnswer {
         number: 0,
-        mark: next,
         event: e.event,
+        mark: next,
     }
 }
 
@@ -216,8 +221,8 @@ pub fn step(
     }
     StepAnswer {
         number,
-        mark,
         event: 0,
+        mark,
     }
 }
 
@@ -289,8 +294,8 @@ fn running(
     };
     RunAnswer {
         number: 0,
-        mark: m,
         reason,
+        mark: m,
         steps: n,
     }
 }
@@ -313,8 +318,8 @@ pub fn run(
     }
     RunAnswer {
         number,
-        mark,
         reason: 0,
+        mark,
         steps: 0,
     }
 }

@@ -6,8 +6,8 @@
 -- * Sound s: twenty slots with values of a valid state. status-of-sound, sound-set, sound-of-enter, sound-of-settle.
 -- * Reaches k m t: the outcome t has sound slots, and its memory is m touched in at most k places.
 -- * reaches-of-still and -halted 0, -exception 6, -fault 14, -trap 6, -both 12, -after 70, -instruction 70, -interrupt 6, -one-step 70.
--- * length-of-one-step-slots, length-of-one-step-memory, valid-slots-of-one-step, valid-bytes-of-one-step, places-of-one-step: the five facts of a
---   step from sound slots and bytes. one-step-keeps: the five in one.
+-- * length-of-one-step-memory, valid-slots-of-one-step, valid-bytes-of-one-step, places-of-one-step: facts of a step from sound slots and bytes.
+--   one-step-keeps: these, and that the slots are as many (twenty-of-one-step), in one.
 use Prim.Native.Nat.{ℕ, _+_, _*_, _/_, _%_, _^_, _≤_, _<_}
 use native.Mathlib.Omega.{arith}
 use native.Mathlib.Nat.{div-add-mod', div-div-eq-div-mul}
@@ -29,6 +29,7 @@ use Rattle.exception.specs.Exceptions.{Stepped, fresh, supervisor-sr, halted, e
 use Rattle.step.specs.declared.Tried.{Tried}
 use Rattle.step.specs.Steps.{conclude, attempt, commit, trap-of, trap, traced, both, after, instruction, interrupt-sr, interrupt, one-step}
 use Rattle.step.proofs.PlacesLaws.{pick-cases, each-at, each-set, Touches, touches-none, touches-then, touches-most, writes-of-small-frame, writes-of-big-frame, writes-of-commit}
+use Rattle.step.proofs.SlotsLaws.{twenty-of-one-step}
 
 -- ---- status registers
 -- what slot 18 may hold
@@ -262,9 +263,6 @@ module _ (s m : List ℕ) (level vector : ℕ) (slots : length s ≡ slot-limit)
   reached : Reaches 70 m (one-step s m level vector)
   reached = reaches-of-one-step s m (record { slots = slots; values = values }) bytes level vector
 
-  pub length-of-one-step-slots : length (one-step s m level vector .s) ≡ slot-limit
-  length-of-one-step-slots = reached .slots .slots
-
   pub length-of-one-step-memory : length (one-step s m level vector .m) ≡ length m
   length-of-one-step-memory = reached .memory .same
 
@@ -280,7 +278,7 @@ module _ (s m : List ℕ) (level vector : ℕ) (slots : length s ≡ slot-limit)
   pub one-step-keeps : Kept s m (one-step s m level vector .s) (one-step s m level vector .m)
   one-step-keeps =
       record {
-        slots = length-of-one-step-slots ∙ sym slots;
+        slots = twenty-of-one-step s m slots level vector ∙ sym slots;
         memory = length-of-one-step-memory;
         values = valid-slots-of-one-step;
         bytes = valid-bytes-of-one-step;

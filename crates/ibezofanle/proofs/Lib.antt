@@ -1,0 +1,5 @@
+pub mod BlockLaws
+pub mod PromiseLaws
+pub mod CallLaws
+pub mod RefusalLaws
+pub mod GoingBack

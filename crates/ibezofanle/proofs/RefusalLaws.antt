@@ -1,0 +1,175 @@
+-- RefusalLaws.antt - demand 1 of the calls from C: 9 before the numbers of 01's tables, exactly; a refused call alters nothing.
+-- * ibz-reset-verdict, ibz-step-verdict, ibz-run-verdict, ibz-undo-verdict: the number is n if and only if n is that of the first line of the
+--   call's table that applies (exactly); it is 9 if and only if the block is not 80 bytes long (nine); on a block that is, no line that applies
+--   has a lower number (lowest); it is 0 if and only if no line applies (done).
+-- * ibz-step-refused, ibz-run-refused, ibz-undo-refused: a call whose number is not 0, 9 or another, gives back block, memory, journal and mark
+--   as given, byte for byte, and 0 for the rest.
+-- * ibz-reset-refused: a reset refused by 1 leaves the block of the fixed state; ibz-reset-at-nine: one refused by 9 leaves the block.
+-- Source: [K1], [01 Calls and what they give back].
+use Prim.Native.Nat.{ℕ, _<_}
+use mathlib.Core.Path.{_≡_, refl, sym, ap, subst, _∙_}
+use mathlib.Core.Logic.{_↔_}
+use mathlib.Core.Bool.{Bool, true, false}
+use mathlib.Core.List.{List, [], _∷_}
+use native.Mathlib.Omega.{arith}
+use lib.ListN.{length}
+use lib.Dec.{eqb}
+use borrow.Author.Tests.{eqb-true, eqb-false, eq-eqb, ne-eqb}
+use Rattle.bits.specs.Bits.{pick}
+use Rattle.record.specs.Limits.{ValidBytes}
+use Rattle.machine.specs.declared.StepAnswer.{StepAnswer}
+use Rattle.machine.specs.declared.RunAnswer.{RunAnswer}
+use Rattle.machine.specs.declared.UndoAnswer.{UndoAnswer}
+use Rattle.machine.specs.Calls.{StepCall, RunCall, UndoCall, refused-slots, reset-number, reset-call, step-call, run-call, undo-call}
+use Rattle.machine.specs.Refusals.{Line, Given, zero-at-end, this, later, NoneApplies, reset-table, step-table, run-table, undo-table}
+use Rattle.machine.proofs.RefusalLaws.{Lowest, Verdict, given-unique, reset-verdict, step-verdict, run-verdict, undo-verdict, reset-refused, step-refused, run-refused, undo-refused}
+use Rattle.ibezofanle.specs.Block.{block-length, slots-in, block-of}
+use Rattle.ibezofanle.specs.Calls.{no-block, block-fits, IbzReset, OnBlock, on-block, step-refusal, run-refusal, undo-refusal, ibz-reset, ibz-step, ibz-run, ibz-undo}
+use Rattle.ibezofanle.specs.Refusals.{block-line, ibz-reset-table, ibz-step-table, ibz-run-table, ibz-undo-table}
+use Rattle.ibezofanle.proofs.BlockLaws.{block-of-slots-in}
+
+-- ---- what is proved of a call's number c on block b, where t is the machine's table
+pub record IbzVerdict (b : List ℕ) (t : List Line) (c : ℕ) : Type 1 where
+  pub exactly : (n : ℕ) → ((c ≡ n) ↔ Given (block-line b ∷ t) n)
+  pub nine : (c ≡ no-block) ↔ (length b ≡ block-length → ⊥)
+  pub lowest : length b ≡ block-length → Lowest c t
+  pub done : (c ≡ 0) ↔ NoneApplies (block-line b ∷ t)
+
+-- every number of a table is below 9
+abbrev BelowNine : List Line → Type 0
+BelowNine [] = Unit {0}
+BelowNine (l ∷ ls) = (l .number < no-block) × BelowNine ls
+
+given-below-nine : (t : List Line) (n : ℕ) → BelowNine t → Given t n → n < no-block
+given-below-nine t n h zero-at-end = omega arith
+given-below-nine t n h (this a e) = omega (arith, h .0)
+given-below-nine t n h (later {ls = ls} a e) = given-below-nine ls n (h .1) e
+
+-- the number k of the machine's call, by its table, and 9 before it
+module _ (b : List ℕ) (t : List Line) (k : ℕ) (v : Verdict t k) (below : BelowNine t) where
+  given : Given t k
+  given = v .exactly k .0 refl
+
+  small : k < no-block
+  small = given-below-nine t k below given
+
+  verdict-held : length b ≡ block-length → IbzVerdict b t k
+  verdict-held e =
+      let fits : (length b ≡ block-length → ⊥) → ⊥ = λ h. h e in
+      let g : Given (block-line b ∷ t) k = later fits given in
+      record {
+        exactly = λ n. (λ q. subst (Given (block-line b ∷ t)) q g, λ h. given-unique (block-line b ∷ t) k n g h);
+        nine = (λ q. absurd (omega (arith, small)), λ h. absurd (h e));
+        lowest = λ _. v .lowest;
+        done = (λ q. (fits, v .done .0 q), λ h. v .done .1 (h .1));
+      }
+
+  verdict-nine : (length b ≡ block-length → ⊥) → IbzVerdict b t no-block
+  verdict-nine h =
+      let g : Given (block-line b ∷ t) no-block = this h refl in
+      record {
+        exactly = λ n. (λ q. subst (Given (block-line b ∷ t)) q g, λ i. given-unique (block-line b ∷ t) no-block n g i);
+        nine = (λ _. h, λ _. refl);
+        lowest = λ e. absurd (h e);
+        done = (λ q. absurd (omega arith), λ i. absurd (i .0 h));
+      }
+
+  -- whatever the call gives, if its number is k where the block fits and 9 where it does not
+  pub ibz-verdict : {A : Type 0} (number : A → ℕ) (x y : A) → number x ≡ k → number y ≡ no-block → IbzVerdict b t (number (pick (block-fits b) x y))
+  ibz-verdict number x y p q = go (block-fits b) refl
+    where
+      go : (f : Bool) → block-fits b ≡ f → IbzVerdict b t (number (pick f x y))
+      go true e = rw p (verdict-held (eqb-true (length b) block-length e))
+      go false e = rw q (verdict-nine (eqb-false (length b) block-length e))
+
+-- ---- a refused call on a block of bytes gives back all that it was lent
+module _ {A : Type 0} (number : A → ℕ) (refusal : ℕ → A) (is : (n : ℕ) → number (refusal n) ≡ n) (b m j : List ℕ) (bytes : ValidBytes b) where
+  -- the machine's call was refused
+  pub record Stayed (s₁ m₁ j₁ : List ℕ) (a : A) : Type 0 where
+    pub slots : s₁ ≡ slots-in b
+    pub memory : m₁ ≡ m
+    pub journal : j₁ ≡ j
+    pub answer : a ≡ refusal (number a)
+
+  pub on-block-refused : (s₁ m₁ j₁ : List ℕ) (a : A) → ((number a ≡ 0 → ⊥) → Stayed s₁ m₁ j₁ a)
+      → (number (on-block b m j refusal s₁ m₁ j₁ a .a) ≡ 0 → ⊥)
+      → on-block b m j refusal s₁ m₁ j₁ a ≡ record { b = b; m = m; j = j; a = refusal (number (on-block b m j refusal s₁ m₁ j₁ a .a)) }
+  on-block-refused s₁ m₁ j₁ a stayed = go (block-fits b) refl
+    where
+      left : Bool → OnBlock A
+      left f = pick f (record { b = block-of s₁; m = m₁; j = j₁; a = a }) (record { b = b; m = m; j = j; a = refusal no-block })
+
+      go : (f : Bool) → block-fits b ≡ f → (number (left f .a) ≡ 0 → ⊥) → left f ≡ record { b = b; m = m; j = j; a = refusal (number (left f .a)) }
+      go false e h = ap {B = OnBlock A} (λ (n : ℕ). record { b = b; m = m; j = j; a = refusal n }) (sym (is no-block))
+      go true e h =
+          let s = stayed h in
+          let same : block-of s₁ ≡ b = ap block-of (s .slots) ∙ block-of-slots-in b (eqb-true (length b) block-length e) bytes in
+          λ i. record { b = same i; m = s .memory i; j = s .journal i; a = s .answer i }
+
+-- ---- reset
+module _ (b m : List ℕ) where
+  pub ibz-reset-verdict : IbzVerdict b (reset-table m) (ibz-reset b m .a .number)
+  unfolding ibz-reset
+  ibz-reset-verdict = ibz-verdict b (reset-table m) (reset-number m) (reset-verdict m) (omega arith) (λ (c : IbzReset). c .a .number) _ _ refl refl
+
+  pub ibz-reset-at-nine : (length b ≡ block-length → ⊥) → ibz-reset b m ≡ record { b = b; a = record { number = no-block } }
+  unfolding ibz-reset
+  ibz-reset-at-nine h = rw (ne-eqb (length b) block-length h)
+
+  pub ibz-reset-refused : length b ≡ block-length → (reset-number m ≡ 0 → ⊥) → ibz-reset b m .b ≡ block-of refused-slots
+  unfolding ibz-reset
+  ibz-reset-refused e h = rw (eq-eqb (length b) block-length e) (ap block-of (reset-refused m h))
+
+-- ---- step
+module _ (b m : List ℕ) (level vector : ℕ) (j : List ℕ) (mark : ℕ) where
+  abbrev stepped : StepCall
+  stepped = step-call (slots-in b) m level vector j mark
+
+  pub ibz-step-verdict : IbzVerdict b (step-table (slots-in b) m level j mark) (ibz-step b m level vector j mark .a .number)
+  unfolding ibz-step
+  ibz-step-verdict =
+      ibz-verdict b (step-table (slots-in b) m level j mark) (stepped .a .number) (step-verdict (slots-in b) m level j mark vector) (omega arith) (λ (c : OnBlock StepAnswer). c .a .number) _ _ refl refl
+
+  pub ibz-step-refused : ValidBytes b → (ibz-step b m level vector j mark .a .number ≡ 0 → ⊥)
+      → ibz-step b m level vector j mark ≡ record { b = b; m = m; j = j; a = step-refusal mark (ibz-step b m level vector j mark .a .number) }
+  unfolding ibz-step
+  ibz-step-refused bytes =
+      on-block-refused (λ a. a .number) (step-refusal mark) (λ n. refl) b m j bytes (stepped .s) (stepped .m) (stepped .j) (stepped .a)
+      (λ h. let r = step-refused (slots-in b) m level j mark vector h in
+      record { slots = ap (λ (c : StepCall). c .s) r; memory = ap (λ (c : StepCall). c .m) r; journal = ap (λ (c : StepCall). c .j) r; answer = ap (λ (c : StepCall). c .a) r })
+
+-- ---- run
+module _ (b m : List ℕ) (budget stop : ℕ) (j : List ℕ) (mark : ℕ) where
+  abbrev ran : RunCall
+  ran = run-call (slots-in b) m budget stop j mark
+
+  pub ibz-run-verdict : IbzVerdict b (run-table (slots-in b) m budget j mark) (ibz-run b m budget stop j mark .a .number)
+  unfolding ibz-run
+  ibz-run-verdict =
+      ibz-verdict b (run-table (slots-in b) m budget j mark) (ran .a .number) (run-verdict (slots-in b) m budget j mark stop) (omega arith) (λ (c : OnBlock RunAnswer). c .a .number) _ _ refl refl
+
+  pub ibz-run-refused : ValidBytes b → (ibz-run b m budget stop j mark .a .number ≡ 0 → ⊥)
+      → ibz-run b m budget stop j mark ≡ record { b = b; m = m; j = j; a = run-refusal mark (ibz-run b m budget stop j mark .a .number) }
+  unfolding ibz-run
+  ibz-run-refused bytes =
+      on-block-refused (λ a. a .number) (run-refusal mark) (λ n. refl) b m j bytes (ran .s) (ran .m) (ran .j) (ran .a)
+      (λ h. let r = run-refused (slots-in b) m budget j mark stop h in
+      record { slots = ap (λ (c : RunCall). c .s) r; memory = ap (λ (c : RunCall). c .m) r; journal = ap (λ (c : RunCall). c .j) r; answer = ap (λ (c : RunCall). c .a) r })
+
+-- ---- undo
+module _ (b m j : List ℕ) (mark : ℕ) where
+  abbrev undone : UndoCall
+  undone = undo-call (slots-in b) m j mark
+
+  pub ibz-undo-verdict : IbzVerdict b (undo-table (slots-in b) m j mark) (ibz-undo b m j mark .a .number)
+  unfolding ibz-undo
+  ibz-undo-verdict =
+      ibz-verdict b (undo-table (slots-in b) m j mark) (undone .a .number) (undo-verdict (slots-in b) m j mark) (omega arith) (λ (c : OnBlock UndoAnswer). c .a .number) _ _ refl refl
+
+  pub ibz-undo-refused : ValidBytes b → (ibz-undo b m j mark .a .number ≡ 0 → ⊥)
+      → ibz-undo b m j mark ≡ record { b = b; m = m; j = j; a = undo-refusal mark (ibz-undo b m j mark .a .number) }
+  unfolding ibz-undo
+  ibz-undo-refused bytes =
+      on-block-refused (λ a. a .number) (undo-refusal mark) (λ n. refl) b m j bytes (undone .s) (undone .m) j (undone .a)
+      (λ h. let r = undo-refused (slots-in b) m j mark h in
+      record { slots = ap (λ (c : UndoCall). c .s) r; memory = ap (λ (c : UndoCall). c .m) r; journal = refl; answer = ap (λ (c : UndoCall). c .a) r })

@@ -1,0 +1,75 @@
+-- Calls.antt - reset, step, run and undo from C: the machine's calls on the slots that the block holds, and refusal 9 before all others.
+-- After a call the block holds the returned state; at 9 nothing is read, judged or altered.
+-- Uses: bits, machine.  Laws: proofs/.  Source: [K1].
+use Prim.Native.Nat.{ℕ}
+use mathlib.Core.Bool.{Bool}
+use mathlib.Core.List.{List}
+use lib.ListN.{length}
+use lib.Dec.{eqb}
+use Rattle.bits.specs.Bits.{pick}
+use Rattle.machine.specs.declared.StepAnswer.{StepAnswer}
+use Rattle.machine.specs.declared.RunAnswer.{RunAnswer}
+use Rattle.machine.specs.declared.UndoAnswer.{UndoAnswer}
+use Rattle.machine.specs.Calls.{reset-number, reset-call, step-call, run-call, undo-call}
+use Rattle.ibezofanle.specs.declared.ResetAnswer.{ResetAnswer}
+use Rattle.ibezofanle.specs.Block.{block-length, slots-in, block-of}
+
+-- the refusal of a block of another length  [K1]
+abbrev pub no-block : ℕ
+no-block = 9
+
+-- refusal 9 is given exactly when this does not hold  [K1]
+abbrev pub block-fits : List ℕ → Bool
+block-fits b = eqb (length b) block-length
+
+-- ---- reset
+
+-- the block after a reset, and its answer; memory is only read  [ours]
+pub record IbzReset : Type 0 where
+  pub b : List ℕ
+  pub a : ResetAnswer
+
+unfoldable pub ibz-reset : List ℕ → List ℕ → IbzReset
+ibz-reset b m =
+    pick (block-fits b)
+    (record { b = block-of (reset-call m); a = record { number = reset-number m } })
+    (record { b = b; a = record { number = no-block } })
+
+-- ---- step, run and undo
+
+-- block, memory and journal after a call, and its answer  [ours]
+pub record OnBlock (A : Type 0) : Type 0 where
+  pub b : List ℕ
+  pub m : List ℕ
+  pub j : List ℕ
+  pub a : A
+
+-- a call on block b, memory m and journal j that leaves slots s₁, memory m₁, journal j₁ and gives a; at 9 all stays  [K1]
+abbrev pub on-block : {A : Type 0} → List ℕ → List ℕ → List ℕ → (ℕ → A) → List ℕ → List ℕ → List ℕ → A → OnBlock A
+on-block b m j refusal s₁ m₁ j₁ a =
+    pick (block-fits b)
+    (record { b = block-of s₁; m = m₁; j = j₁; a = a })
+    (record { b = b; m = m; j = j; a = refusal no-block })
+
+-- the answers of a refused call: its number, the mark as given, 0 for the rest  [01 Calls, table]
+abbrev pub step-refusal : ℕ → ℕ → StepAnswer
+step-refusal mark n = record { number = n; event = 0; mark = mark }
+
+abbrev pub run-refusal : ℕ → ℕ → RunAnswer
+run-refusal mark n = record { number = n; reason = 0; mark = mark; steps = 0 }
+
+abbrev pub undo-refusal : ℕ → ℕ → UndoAnswer
+undo-refusal mark n = record { number = n; mark = mark }
+
+unfoldable pub ibz-step : List ℕ → List ℕ → ℕ → ℕ → List ℕ → ℕ → OnBlock StepAnswer
+ibz-step b m level vector j mark =
+    let c = step-call (slots-in b) m level vector j mark in on-block b m j (step-refusal mark) (c .s) (c .m) (c .j) (c .a)
+
+unfoldable pub ibz-run : List ℕ → List ℕ → ℕ → ℕ → List ℕ → ℕ → OnBlock RunAnswer
+ibz-run b m budget stop j mark =
+    let c = run-call (slots-in b) m budget stop j mark in on-block b m j (run-refusal mark) (c .s) (c .m) (c .j) (c .a)
+
+-- undo only reads the journal  [01 The journal]
+unfoldable pub ibz-undo : List ℕ → List ℕ → List ℕ → ℕ → OnBlock UndoAnswer
+ibz-undo b m j mark =
+    let c = undo-call (slots-in b) m j mark in on-block b m j (undo-refusal mark) (c .s) (c .m) j (c .a)

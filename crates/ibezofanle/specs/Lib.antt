@@ -1,0 +1,5 @@
+pub mod Block
+pub mod Calls
+pub mod Refusals
+pub mod Promises
+pub mod History

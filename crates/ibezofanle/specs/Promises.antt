@@ -1,0 +1,36 @@
+-- Promises.antt - all that a call from C promises: its answer, and block, memory and journal afterwards, for every input.
+-- Not here: the definitions that it names (Calls.antt).
+-- Laws: proofs/PromiseLaws.antt.  Source: [K1], [01 How much each promise says].
+use Prim.Native.Nat.{ℕ}
+use mathlib.Core.Path.{_≡_}
+use mathlib.Core.List.{List}
+use Rattle.machine.specs.declared.StepAnswer.{StepAnswer}
+use Rattle.machine.specs.declared.RunAnswer.{RunAnswer}
+use Rattle.machine.specs.declared.UndoAnswer.{UndoAnswer}
+use Rattle.ibezofanle.specs.declared.ResetAnswer.{ResetAnswer}
+use Rattle.ibezofanle.specs.Calls.{ibz-reset, ibz-step, ibz-run, ibz-undo}
+
+-- reset: memory is lent to be read only  [K1]
+pub record IbzResetPromise (b m b′ : List ℕ) (a : ResetAnswer) : Type 0 where
+  pub block : b′ ≡ ibz-reset b m .b
+  pub answer : a ≡ ibz-reset b m .a
+
+-- step  [K1]
+pub record IbzStepPromise (b m : List ℕ) (level vector : ℕ) (j : List ℕ) (mark : ℕ) (b′ m′ j′ : List ℕ) (a : StepAnswer) : Type 0 where
+  pub block : b′ ≡ ibz-step b m level vector j mark .b
+  pub memory : m′ ≡ ibz-step b m level vector j mark .m
+  pub journal : j′ ≡ ibz-step b m level vector j mark .j
+  pub answer : a ≡ ibz-step b m level vector j mark .a
+
+-- run  [K1]
+pub record IbzRunPromise (b m : List ℕ) (budget stop : ℕ) (j : List ℕ) (mark : ℕ) (b′ m′ j′ : List ℕ) (a : RunAnswer) : Type 0 where
+  pub block : b′ ≡ ibz-run b m budget stop j mark .b
+  pub memory : m′ ≡ ibz-run b m budget stop j mark .m
+  pub journal : j′ ≡ ibz-run b m budget stop j mark .j
+  pub answer : a ≡ ibz-run b m budget stop j mark .a
+
+-- undo: the journal is lent to be read only  [K1]
+pub record IbzUndoPromise (b m j : List ℕ) (mark : ℕ) (b′ m′ : List ℕ) (a : UndoAnswer) : Type 0 where
+  pub block : b′ ≡ ibz-undo b m j mark .b
+  pub memory : m′ ≡ ibz-undo b m j mark .m
+  pub answer : a ≡ ibz-undo b m j mark .a

@@ -1,0 +1,30 @@
+-- Refusals.antt - the tables of refusals of the calls from C: 9 before the lines of 01's tables, at the slots that the block holds.
+-- Not here: what a call gives back (Calls.antt), 01's tables (Refusals.antt of the crate machine).
+-- Laws: proofs/RefusalLaws.antt.  Source: [K1].
+use Prim.Native.Nat.{ℕ}
+use mathlib.Core.Path.{_≡_}
+use mathlib.Core.List.{List, _∷_}
+use lib.ListN.{length}
+use Rattle.machine.specs.Refusals.{Line, reset-table, step-table, run-table, undo-table}
+use Rattle.ibezofanle.specs.Block.{block-length, slots-in}
+use Rattle.ibezofanle.specs.Calls.{no-block}
+
+-- the block is not 80 bytes long  [K1]
+abbrev pub block-line : List ℕ → Line
+block-line b = record { number = no-block; applies = length b ≡ block-length → ⊥ }
+
+-- reset gives 9 and 1  [K1]
+abbrev pub ibz-reset-table : List ℕ → List ℕ → List Line
+ibz-reset-table b m = block-line b ∷ reset-table m
+
+-- step gives 9 and 1 to 6  [K1]
+abbrev pub ibz-step-table : List ℕ → List ℕ → ℕ → List ℕ → ℕ → List Line
+ibz-step-table b m level j mark = block-line b ∷ step-table (slots-in b) m level j mark
+
+-- run gives 9 and 1 to 4  [K1]
+abbrev pub ibz-run-table : List ℕ → List ℕ → ℕ → List ℕ → ℕ → List Line
+ibz-run-table b m budget j mark = block-line b ∷ run-table (slots-in b) m budget j mark
+
+-- undo gives 9, 1, 2, 4, 7 and 8  [K1]
+abbrev pub ibz-undo-table : List ℕ → List ℕ → List ℕ → ℕ → List Line
+ibz-undo-table b m j mark = block-line b ∷ undo-table (slots-in b) m j mark

@@ -1,0 +1,103 @@
+// lib.rt - the calls from C: reset, step, run and undo, with the state in a lent block of 80 bytes. No call has a `requires`.
+// Means: specs/Calls.antt, specs/Promises.antt.  Laws: proofs/CallLaws.antt, and the theorems beside it.
+// Uses: machine.  Declared for C in c/ibezofanle.h.  Source: [K1].
+ghost use Rattle.ibezofanle.specs.Promises.{IbzResetPromise, IbzStepPromise, IbzRunPromise, IbzUndoPromise};
+use block::BLOCK_LENGTH;
+use machine::RunAnswer;
+use machine::StepAnswer;
+use machine::UndoAnswer;
+
+mod block;
+
+// The refusal of a block that is not 80 bytes long.
+const NO_BLOCK: u32 = 9;
+
+// A reset's answer: the refusal's number or 0. A struct, as the other answers are, so that new members can go to its end.
+#[repr(C)]
+pub struct ResetAnswer {
+    pub number: u32,
+}
+
+// Reset. It does not write memory.
+#[no_mangle]
+pub extern "C" fn ibz_reset(block: &mut [u8], memory: &[u8]) -> ResetAnswer
+    ensures { λ a. ⌜ IbzResetPromise (now (block .entry)) (now (memory .entry)) (now (block .exit)) a ⌝ }
+{
+    if block.len() != BLOCK_LENGTH {
+        return ResetAnswer { number: NO_BLOCK };
+    }
+    let mut slots = block::slots_in(block);
+    let number = machine::reset(&mut slots, memory);
+    block::put_block(block, &slots);
+    ResetAnswer { number }
+}
+
+#[no_mangle]
+pub extern "C" fn ibz_step(
+    block: &mut [u8],
+    memory: &mut [u8],
+    level: u32,
+    vector: u8,
+    journal: &mut [u8],
+    mark: usize,
+) -> StepAnswer
+    ensures { λ a. ⌜ IbzStepPromise (now (block .entry)) (now (memory .entry)) level vector (now (journal .entry)) mark (now (block .exit)) (now (memory .exit)) (now (journal .exit)) a ⌝ }
+{
+    if block.len() != BLOCK_LENGTH {
+        return StepAnswer {
+            number: NO_BLOCK,
+            event: 0,
+            mark,
+        };
+    }
+    let mut slots = block::slots_in(block);
+    let a = machine::step(&mut slots, memory, level, vector, journal, mark);
+    block::put_block(block, &slots);
+    a
+}
+
+#[no_mangle]
+pub extern "C" fn ibz_run(
+    block: &mut [u8],
+    memory: &mut [u8],
+    budget: u32,
+    stop: u32,
+    journal: &mut [u8],
+    mark: usize,
+) -> RunAnswer
+    ensures { λ a. ⌜ IbzRunPromise (now (block .entry)) (now (memory .entry)) budget stop (now (journal .entry)) mark (now (block .exit)) (now (memory .exit)) (now (journal .exit)) a ⌝ }
+{
+    if block.len() != BLOCK_LENGTH {
+        return RunAnswer {
+            number: NO_BLOCK,
+            reason: 0,
+            mark,
+            steps: 0,
+        };
+    }
+    let mut slots = block::slots_in(block);
+    let a = machine::run(&mut slots, memory, budget, stop, journal, mark);
+    block::put_block(block, &slots);
+    a
+}
+
+#[no_mangle]
+pub extern "C" fn ibz_undo(
+    block: &mut [u8],
+    memory: &mut [u8],
+    journal: &[u8],
+    mark: usize,
+) -> UndoAnswer
+    ensures { λ a. ⌜ IbzUndoPromise (now (block .entry)) (now (memory .entry)) (now (journal .entry)) mark (now (block .exit)) (now (memory .exit)) a ⌝ }
+{
+    if block.len() != BLOCK_LENGTH {
+        return UndoAnswer {
+            number: NO_BLOCK,
+            mark,
+        };
+    }
+    let mut slots = block::slots_in(block);
+    let a = machine::undo(&mut slots, memory, journal, mark);
+    block::put_block(block, &slots);
+    a
+}

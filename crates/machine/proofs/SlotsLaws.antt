@@ -1,0 +1,56 @@
+-- SlotsLaws.antt - twenty slots stay twenty in every call, whatever they hold and whatever it is lent.
+-- * twenty-of-act: the law, for a step, a run and an undo.
+-- Source: [01 State], [01 Calls and what they give back].
+use Prim.Native.Nat.{ℕ, zero, suc, _+_, _-_}
+use mathlib.Core.Path.{_≡_, refl, _∙_}
+use mathlib.Core.List.{List}
+use lib.ListN.{length}
+use lib.Dec.{ltb, eqb}
+use Rattle.bank.specs.Bank.{pc-of, mode-of}
+use Rattle.record.specs.Limits.{slot-limit, longest-record}
+use Rattle.record.proofs.KeptLaws.{length-restore}
+use Rattle.step.proofs.PlacesLaws.{pick-cases}
+use Rattle.step.proofs.SlotsLaws.{twenty-of-one-step}
+use Rattle.undo.specs.Undo.{Record, found, none, well-formed, undo-of}
+use Rattle.machine.specs.Calls.{StepCall, RunCall, UndoCall, step-number, step-taken, step-call, run-number, running, run-call, undo-number, undo-call}
+use Rattle.machine.specs.History.{Machine, Call, step-of, run-of, undo-once, act}
+
+module _ (s m : List ℕ) (h : length s ≡ slot-limit) where
+  twenty-of-step : (level vector : ℕ) (j : List ℕ) (mark : ℕ) → length (step-call s m level vector j mark .s) ≡ slot-limit
+  unfolding step-call step-taken
+  twenty-of-step level vector j mark =
+      pick-cases (λ (c : StepCall). length (c .s) ≡ slot-limit) (eqb (step-number s m level j mark) 0) (twenty-of-one-step s m h level vector) h
+
+  twenty-of-undo : (j : List ℕ) (mark : ℕ) → length (undo-call s m j mark .s) ≡ slot-limit
+  unfolding undo-call undo-of
+  twenty-of-undo j mark =
+      pick-cases (λ (c : UndoCall). length (c .s) ≡ slot-limit) (eqb (undo-number s m j mark) 0) (restored (well-formed s m j mark) refl) h
+    where
+      restored : (w : Record) → well-formed s m j mark ≡ w → length (undo-of s m j mark .slots) ≡ slot-limit
+      restored none e = rw e h
+      restored (found ss bs r) e = rw e (length-restore ss s ∙ h)
+
+abbrev TwentyRun : RunCall → Type 0
+TwentyRun c = length (c .s) ≡ slot-limit
+
+twenty-of-running : (k n stop : ℕ) (s m j : List ℕ) (mark : ℕ) → length s ≡ slot-limit → length (running k n stop s m j mark .s) ≡ slot-limit
+unfolding running step-taken
+twenty-of-running zero n stop s m j mark h = h
+twenty-of-running (suc k) n stop s m j mark h =
+    let c = step-taken s m 0 0 j mark in
+    let rest = twenty-of-running k (n + 1) stop (c .s) (c .m) (c .j) (c .a .mark) (twenty-of-one-step s m h 0 0) in
+    pick-cases TwentyRun (eqb (mode-of s) 2) h
+    (pick-cases TwentyRun (eqb (mode-of s) 1) h
+    (pick-cases TwentyRun (ltb (length j - mark) longest-record) h
+    (pick-cases TwentyRun (eqb (pc-of s) stop) h rest)))
+
+twenty-of-run : (s m : List ℕ) (budget stop : ℕ) (j : List ℕ) (mark : ℕ) → length s ≡ slot-limit → length (run-call s m budget stop j mark .s) ≡ slot-limit
+unfolding run-call
+twenty-of-run s m budget stop j mark h =
+    pick-cases TwentyRun (eqb (run-number s m budget j mark) 0) (twenty-of-running budget 0 stop s m j mark h) h
+
+pub twenty-of-act : (c : Call) (x : Machine) → length (x .slots) ≡ slot-limit → length (act c x .slots) ≡ slot-limit
+unfolding act
+twenty-of-act (step-of level vector) x h = twenty-of-step (x .slots) (x .memory) h level vector (x .journal) (x .mark)
+twenty-of-act (run-of budget stop) x h = twenty-of-run (x .slots) (x .memory) budget stop (x .journal) (x .mark) h
+twenty-of-act undo-once x h = twenty-of-undo (x .slots) (x .memory) h (x .journal) (x .mark)
