@@ -1,0 +1,225 @@
+/* box.c - a small host to start from: loads an image, steps, runs, shows the machine, and goes back.
+ *
+ *   box [-m BYTES] [-j BYTES] [-a ADDRESS] IMAGE
+ *
+ * IMAGE is raw bytes; they go to ADDRESS (0) of a memory of BYTES (65,536), and the machine is reset: SSP is the long at address 0,
+ * PC the long at 4. -j says how many bytes of journal there are (1,048,576). Then it reads commands, one to a line; `help` lists them. */
+#include "ibezofanle.h"
+#include <stdio.h>
+#include <stdlib.h>
+#include <string.h>
+
+static uint8_t block[IBZ_BLOCK_LENGTH], *memory, *journal;
+static size_t memory_length = 65536, journal_length = 1048576, mark;
+static unsigned long standing; /* steps that can be taken back */
+
+static const char help[] =
+    "step [N]              do N steps (1), and show each\n"
+    "run [N] [ADDRESS]     do N steps (1000000), or fewer: until PC is ADDRESS, or the machine stops, halts, or the journal is full\n"
+    "irq LEVEL VECTOR      do a step that asks for an interrupt\n"
+    "back [N]              take N steps back (1); `back all` takes back all\n"
+    "forget                keep the machine as it is, and give up the way back: the journal is empty again\n"
+    "regs                  show the registers\n"
+    "mem ADDRESS [N]       show N bytes of memory (64)\n"
+    "reset                 reset the machine, and give up the way back; memory stays\n"
+    "help, quit            numbers are decimal, or hex as 0x1F or $1F\n";
+
+/* ---- what is shown */
+
+static void show_status(void) {
+  static const char *const modes[] = {"running", "stopped", "halted"};
+  const uint32_t sr = ibz_get(block, IBZ_SR);
+  printf("SR %04X  %c%c mask %u  ", (unsigned)sr, sr & 0x8000u ? 'T' : '-', sr & 0x2000u ? 'S' : '-', (unsigned)(sr >> 8 & 7u));
+  for (int i = 4; i >= 0; i--) putchar(sr >> i & 1u ? "CVZNX"[i] : '-');
+  printf("  %s", modes[ibz_get(block, IBZ_MODE) % 3u]);
+}
+
+/* One line: how many steps stand, where the machine is, and the word there. */
+static void show_place(void) {
+  const uint32_t pc = ibz_get(block, IBZ_PC), at = pc & 0xFFFFFFu;
+  printf("%8lu  PC %08X  ", standing, (unsigned)pc);
+  if (at + 1u < memory_length) printf("%02X%02X", memory[at], memory[at + 1u]);
+  else printf("----");
+  printf("  ");
+  show_status();
+  puts("");
+}
+
+static void show_registers(void) {
+  for (unsigned i = 0; i < 8; i++) printf("D%u %08X%s", i, (unsigned)ibz_get(block, IBZ_D0 + i), i % 4 == 3 ? "\n" : "  ");
+  for (unsigned i = 0; i < 7; i++) printf("A%u %08X%s", i, (unsigned)ibz_get(block, IBZ_A0 + i), i % 4 == 3 ? "\n" : "  ");
+  printf("A7 %08X\n", (unsigned)ibz_get_a7(block));
+  printf("PC %08X  USP %08X  SSP %08X\n", (unsigned)ibz_get(block, IBZ_PC), (unsigned)ibz_get(block, IBZ_USP), (unsigned)ibz_get(block, IBZ_SSP));
+  show_status();
+  printf("\n%lu steps can be taken back; %zu of %zu journal bytes used\n", standing, mark, journal_length);
+}
+
+static void show_memory(unsigned long at, unsigned long n) {
+  if (at >= memory_length) {
+    printf("memory ends at %06zX\n", memory_length);
+    return;
+  }
+  if (n > memory_length - at) n = memory_length - at;
+  for (unsigned long i = 0; i < n; i++) {
+    if (i % 16 == 0) printf("%s%06lX ", i == 0 ? "" : "\n", at + i);
+    printf(" %02X", memory[at + i]);
+  }
+  puts("");
+}
+
+static void show_refusal(uint32_t number) {
+  printf("not done: %s (%u)\n", ibz_number_text(number), (unsigned)number);
+  if (number == IBZ_JOURNAL_FULL) puts("`back` makes room, and so does `forget`");
+}
+
+/* ---- what is done */
+
+static void reset(void) {
+  const struct ibz_reset_answer a = ibz_reset(block, sizeof block, memory, memory_length);
+  mark = 0;
+  standing = 0;
+  if (a.number != IBZ_DONE) show_refusal(a.number);
+  show_place();
+}
+
+static int step(uint32_t level, uint8_t vector) {
+  const struct ibz_step_answer a = ibz_step(block, sizeof block, memory, memory_length, level, vector, journal, journal_length, mark);
+  if (a.number != IBZ_DONE) {
+    show_refusal(a.number);
+    return 0;
+  }
+  mark = a.mark;
+  standing++;
+  if (a.event == IBZ_EVENT_HALT) puts("          halted");
+  else if (a.event != IBZ_EVENT_NONE) printf("          exception: vector %u\n", (unsigned)a.event - 1u);
+  show_place();
+  return 1;
+}
+
+/* A run has at most IBZ_BUDGET_MOST steps: more are several runs. */
+static void run(unsigned long n, uint32_t stop) {
+  struct ibz_run_answer a;
+  unsigned long done = 0;
+  do {
+    const uint32_t budget = n - done < IBZ_BUDGET_MOST ? (uint32_t)(n - done) : IBZ_BUDGET_MOST;
+    a = ibz_run(block, sizeof block, memory, memory_length, budget, stop, journal, journal_length, mark);
+    if (a.number != IBZ_DONE) {
+      show_refusal(a.number);
+      return;
+    }
+    mark = a.mark;
+    standing += a.steps;
+    done += a.steps;
+  } while (a.reason == IBZ_REASON_BUDGET && done < n);
+  printf("          %lu steps: %s\n", done, ibz_reason_text(a.reason));
+  show_place();
+}
+
+static void back(unsigned long n) {
+  for (; n > 0; n--) {
+    const struct ibz_undo_answer a = ibz_undo(block, sizeof block, memory, memory_length, journal, journal_length, mark);
+    if (a.number != IBZ_DONE) {
+      show_refusal(a.number);
+      break;
+    }
+    mark = a.mark;
+    standing--;
+  }
+  show_place();
+}
+
+static void forget(void) {
+  mark = 0;
+  standing = 0;
+  show_place();
+}
+
+/* ---- what is asked */
+
+enum { WORDS = 4 };
+
+static int number(const char *text, unsigned long *value) {
+  char *end;
+  const int dollar = text[0] == '$';
+  *value = strtoul(text + dollar, &end, dollar ? 16 : 0);
+  return text[dollar] >= '0' && (end != text + dollar) && *end == 0;
+}
+
+/* The words of a line; more than it has are "". */
+static int split(char *line, char **words) {
+  int n = 0;
+  for (char *p = line; n < WORDS;) {
+    p += strspn(p, " \t\r\n");
+    words[n] = p;
+    if (*p != 0) n++;
+    else break;
+    p += strcspn(p, " \t\r\n");
+    if (*p != 0) *p++ = 0;
+  }
+  for (int i = n; i < WORDS; i++) words[i] = line + strlen(line);
+  return n;
+}
+
+static int asked(char *line) {
+  char *w[WORDS];
+  unsigned long a = 0, b = 0;
+  const int n = split(line, w);
+  if (n == 0) return 1;
+  const int has_a = n > 1 && number(w[1], &a), has_b = n > 2 && number(w[2], &b);
+  const int good = n <= 3 && has_a == (n > 1) && has_b == (n > 2); /* every further word is a number */
+  if (strcmp(w[0], "quit") == 0) return 0;
+  if (strcmp(w[0], "help") == 0) printf("%s", help);
+  else if (strcmp(w[0], "back") == 0 && n == 2 && strcmp(w[1], "all") == 0) back(standing);
+  else if (!good) puts("that is no number: `help` lists what can be asked");
+  else if (strcmp(w[0], "step") == 0 && n <= 2)
+    for (unsigned long k = has_a ? a : 1; k > 0 && step(0, 0); k--) {}
+  else if (strcmp(w[0], "run") == 0) run(has_a ? a : IBZ_BUDGET_MOST, has_b ? (uint32_t)b : 0xFFFFFFFFu);
+  else if (strcmp(w[0], "irq") == 0 && n == 3 && a <= 0xFFFFFFFFu && b <= 255) step((uint32_t)a, (uint8_t)b);
+  else if (strcmp(w[0], "back") == 0 && n <= 2) back(has_a ? a : 1);
+  else if (strcmp(w[0], "forget") == 0 && n == 1) forget();
+  else if (strcmp(w[0], "regs") == 0 && n == 1) show_registers();
+  else if (strcmp(w[0], "mem") == 0 && n >= 2) show_memory(a, has_b ? b : 64);
+  else if (strcmp(w[0], "reset") == 0 && n == 1) reset();
+  else puts("`help` lists what can be asked");
+  return 1;
+}
+
+static int usage(void) {
+  fprintf(stderr, "usage: box [-m BYTES] [-j BYTES] [-a ADDRESS] IMAGE\n"
+                  "BYTES of memory: an even number, 1024 to 16777216; of journal: 536 or more\n");
+  return 2;
+}
+
+int main(int argc, char **argv) {
+  unsigned long address = 0;
+  int i = 1;
+  for (; i + 1 < argc && argv[i][0] == '-'; i += 2) {
+    unsigned long value;
+    if (!number(argv[i + 1], &value)) return usage();
+    if (strcmp(argv[i], "-m") == 0) memory_length = value;
+    else if (strcmp(argv[i], "-j") == 0) journal_length = value;
+    else if (strcmp(argv[i], "-a") == 0) address = value;
+    else return usage();
+  }
+  if (i + 1 != argc || memory_length < IBZ_MEMORY_LEAST || memory_length > IBZ_MEMORY_MOST || memory_length % 2 != 0
+      || journal_length < IBZ_RECORD_MOST || address > memory_length)
+    return usage();
+  memory = (uint8_t *)calloc(memory_length, 1);
+  journal = (uint8_t *)calloc(journal_length, 1);
+  FILE *f = fopen(argv[i], "rb");
+  if (memory == NULL || journal == NULL || f == NULL) {
+    fprintf(stderr, f == NULL ? "box: can't read %s\n" : "box: no memory for %s\n", argv[i]);
+    return 2;
+  }
+  const size_t size = fread(memory + address, 1, memory_length - address, f);
+  uint8_t more;
+  if (fread(&more, 1, 1, f) != 0) fprintf(stderr, "box: the image is longer than memory; what is past its end was left out\n");
+  fclose(f);
+  printf("%zu bytes at %06lX of %zu; `help` lists what can be asked\n", size, address, memory_length);
+  reset();
+  for (char line[256]; printf("> "), fflush(stdout), fgets(line, sizeof line, stdin) != NULL;)
+    if (!asked(line)) break;
+  free(memory);
+  free(journal);
+  return 0;
+}

@@ -1,0 +1,201 @@
+/* ibezofanle.h - an MC68000 whose every step can be taken back: reset, step, run and undo, for C11 and C++17.
+ *
+ * You lend four things, and keep them between calls:
+ *
+ *   block    80 bytes: the processor's state, twenty slots of four bytes, high byte first (enum ibz_slot)
+ *   memory   the 68000's memory, from address 0; its length is even, from 1,024 to 16,777,216
+ *   journal  bytes for the records by which steps are taken back; a step wants 536 of them free
+ *   mark     how many bytes of the journal are in use. 0 at first; then always the mark that the last call returned
+ *
+ * ibz_reset sets the state as the processor's reset does. ibz_step does one instruction, or takes one interrupt, and writes at the
+ * mark how to take it back. ibz_run does many. ibz_undo takes the last step back: block and memory are then, byte for byte, what
+ * they were before it. After any mix of these, block, memory and mark are what the steps that were not undone would have left.
+ *
+ * Every answer begins with `number`: 0 if the call was done, else why it was refused (enum ibz_number). A refused step, run or undo
+ * leaves block, memory, journal and mark as they were. A refused reset sets the halted state, 2 in slot 19 and 0 in every other; but
+ * a block that is not 80 bytes long (IBZ_NO_BLOCK) is never written.
+ *
+ * The calls take any values whatever: any bytes in block, memory and journal, any lengths, any mark. Each ends, and touches nothing
+ * but what it was lent. That is proved of the library, for a caller who keeps to what no C function can check:
+ *
+ *   - a pointer is good for its length: for reading, and for writing where it is not const. It may be NULL if its length is 0.
+ *     It may have any alignment.
+ *   - a length is at most PTRDIFF_MAX, as that of every C object is.
+ *   - block, memory and journal do not overlap.
+ *   - nobody else uses them during the call. The library itself keeps nothing between calls and has no variables: several threads
+ *     may call it at the same time, each on a machine of its own.
+ *
+ * It needs no start, allocates nothing, takes some 2 KiB of stack, and calls nothing from outside but memset.
+ *
+ * Later versions will add members to the end of answers, and arguments to calls: compile host and library from one version,
+ * IBZ_VERSION. */
+#ifndef IBEZOFANLE_H
+#define IBEZOFANLE_H
+
+#include <stddef.h>
+#include <stdint.h>
+
+#ifdef __cplusplus
+extern "C" {
+#endif
+
+#define IBZ_VERSION 1
+
+/* ---- sizes and limits */
+
+#define IBZ_BLOCK_LENGTH 80u       /* bytes of the block */
+#define IBZ_SLOTS 20u              /* slots in it */
+#define IBZ_RECORD_MOST 536u       /* bytes of the longest record: what a step wants free in the journal */
+#define IBZ_MEMORY_LEAST 1024u     /* bytes of memory, an even number of them */
+#define IBZ_MEMORY_MOST 16777216u
+#define IBZ_LEVEL_MOST 7u          /* an interrupt's level */
+#define IBZ_BUDGET_MOST 1000000u   /* steps of a run */
+
+/* ---- the block */
+
+/* The slots, in the order of the block. A7 is SSP if SR has bit 0x2000 (S), else USP: ibz_get_a7 below. */
+enum ibz_slot {
+  IBZ_D0 = 0, IBZ_D1, IBZ_D2, IBZ_D3, IBZ_D4, IBZ_D5, IBZ_D6, IBZ_D7,
+  IBZ_A0 = 8, IBZ_A1, IBZ_A2, IBZ_A3, IBZ_A4, IBZ_A5, IBZ_A6,
+  IBZ_USP = 15,
+  IBZ_SSP = 16,
+  IBZ_PC = 17,
+  IBZ_SR = 18,  /* only bits of 0xA71F, else IBZ_BAD_STATE */
+  IBZ_MODE = 19 /* enum ibz_mode, else IBZ_BAD_STATE */
+};
+
+enum ibz_mode {
+  IBZ_MODE_RUNNING = 0,
+  IBZ_MODE_STOPPED = 1, /* by STOP: only an interrupt goes on */
+  IBZ_MODE_HALTED = 2   /* an exception's frame could not be written: only undo and reset go on */
+};
+
+/* ---- answers */
+
+/* `number` of every answer. Where several apply: IBZ_NO_BLOCK, else the lowest that the call can give. */
+enum ibz_number {
+  IBZ_DONE = 0,
+  IBZ_BAD_MEMORY = 1,   /* reset step run undo   memory's length is odd, below 1,024 or above 16,777,216 */
+  IBZ_BAD_STATE = 2,    /*       step run undo   SR has a bit outside 0xA71F, or mode is above 2; each is judged in all its 32 bits */
+  IBZ_BAD_REQUEST = 3,  /*       step run        level is above 7 (step); budget is above 1,000,000 (run) */
+  IBZ_BAD_MARK = 4,     /*       step run undo   mark is greater than the journal's length */
+  IBZ_JOURNAL_FULL = 5, /*       step            fewer than 536 bytes of journal after the mark */
+  IBZ_IS_HALTED = 6,    /*       step            mode is 2 */
+  IBZ_NO_RECORD = 7,    /*                undo   mark is 0: nothing is left to take back */
+  IBZ_BAD_RECORD = 8,   /*                undo   what stands below the mark is no well-formed record for this state and memory */
+  IBZ_NO_BLOCK = 9      /* reset step run undo   the block is not 80 bytes long; nothing else is looked at */
+};
+
+/* `reason` of a run that was done: the first of these, in this order, that held before a further step. */
+enum ibz_reason {
+  IBZ_REASON_NONE = 0,    /* the run was refused */
+  IBZ_REASON_BUDGET = 1,  /* as many steps were done as were asked for */
+  IBZ_REASON_HALTED = 2,
+  IBZ_REASON_STOPPED = 3, /* the machine waits for an interrupt */
+  IBZ_REASON_JOURNAL = 4, /* fewer than 536 bytes of journal are free */
+  IBZ_REASON_ADDRESS = 5  /* PC is the stop address, in all 32 bits */
+};
+
+/* `event` of a step that was done: IBZ_EVENT_NONE, IBZ_EVENT_HALT, or 1 more than the vector of the first exception that it took. */
+#define IBZ_EVENT_NONE 0u
+#define IBZ_EVENT_HALT 257u
+
+struct ibz_reset_answer {
+  uint32_t number; /* enum ibz_number */
+};
+
+struct ibz_step_answer {
+  uint32_t number; /* enum ibz_number */
+  uint32_t event;  /* what happened; 0 if refused */
+  size_t mark;     /* the next call's mark */
+};
+
+struct ibz_run_answer {
+  uint32_t number; /* enum ibz_number */
+  uint32_t reason; /* enum ibz_reason: why it ended */
+  size_t mark;     /* the next call's mark */
+  uint32_t steps;  /* how many steps were done: so many undos take the run back */
+};
+
+struct ibz_undo_answer {
+  uint32_t number; /* enum ibz_number */
+  size_t mark;     /* the next call's mark */
+};
+
+/* ---- the calls */
+
+/* SSP from address 0 of memory, PC from 4, SR 0x2700, every other slot 0. What the block holds before does not matter, and memory is
+ * only read. A journal starts anew with it: go on with mark 0. Refused by 1, 9. */
+struct ibz_reset_answer ibz_reset(uint8_t *block, size_t block_length, const uint8_t *memory, size_t memory_length);
+
+/* One step. `level` asks for an interrupt, 1 to 7, by `vector`; it is taken if it is 7 or above the mask in SR. At level 0, or if it
+ * is not taken, one instruction is done; a stopped machine stays as it is, and that is a step too. Refused by 1 to 6, 9. */
+struct ibz_step_answer ibz_step(uint8_t *block, size_t block_length, uint8_t *memory, size_t memory_length, uint32_t level,
+                                uint8_t vector, uint8_t *journal, size_t journal_length, size_t mark);
+
+/* Steps with level 0, at most `budget` of them, until a reason holds (enum ibz_reason). To stop at no address, give one
+ * that the program never reaches, as 0xFFFFFFFF. Refused by 1 to 4, 9. */
+struct ibz_run_answer ibz_run(uint8_t *block, size_t block_length, uint8_t *memory, size_t memory_length, uint32_t budget,
+                              uint32_t stop, uint8_t *journal, size_t journal_length, size_t mark);
+
+/* Takes the last step back, by the record that ends at the mark. The journal is only read. Refused by 1, 2, 4, 7, 8, 9. */
+struct ibz_undo_answer ibz_undo(uint8_t *block, size_t block_length, uint8_t *memory, size_t memory_length,
+                                const uint8_t *journal, size_t journal_length, size_t mark);
+
+/* ---- small helpers; `slot` is below IBZ_SLOTS */
+
+/* A slot of the block. */
+static inline uint32_t ibz_get(const uint8_t *block, unsigned slot) {
+  const uint8_t *p = block + 4u * slot;
+  return (uint32_t)p[0] << 24 | (uint32_t)p[1] << 16 | (uint32_t)p[2] << 8 | (uint32_t)p[3];
+}
+
+/* Puts a value into a slot of the block. */
+static inline void ibz_set(uint8_t *block, unsigned slot, uint32_t value) {
+  uint8_t *p = block + 4u * slot;
+  p[0] = (uint8_t)(value >> 24);
+  p[1] = (uint8_t)(value >> 16);
+  p[2] = (uint8_t)(value >> 8);
+  p[3] = (uint8_t)value;
+}
+
+/* A7 as the program sees it. */
+static inline uint32_t ibz_get_a7(const uint8_t *block) {
+  return ibz_get(block, (ibz_get(block, IBZ_SR) & 0x2000u) != 0u ? (unsigned)IBZ_SSP : (unsigned)IBZ_USP);
+}
+
+/* A refusal in words. */
+static inline const char *ibz_number_text(uint32_t number) {
+  switch (number) {
+  case IBZ_DONE: return "done";
+  case IBZ_BAD_MEMORY: return "the length of memory is odd, too small or too large";
+  case IBZ_BAD_STATE: return "SR or mode has a value that it can not have";
+  case IBZ_BAD_REQUEST: return "the level or the budget is too high";
+  case IBZ_BAD_MARK: return "the mark is beyond the journal";
+  case IBZ_JOURNAL_FULL: return "the journal is full";
+  case IBZ_IS_HALTED: return "the machine is halted";
+  case IBZ_NO_RECORD: return "nothing is left to take back";
+  case IBZ_BAD_RECORD: return "the journal has no good record below the mark";
+  case IBZ_NO_BLOCK: return "the block is not 80 bytes long";
+  default: return "an unknown refusal";
+  }
+}
+
+/* Why a run ended, in words. */
+static inline const char *ibz_reason_text(uint32_t reason) {
+  switch (reason) {
+  case IBZ_REASON_NONE: return "it was refused";
+  case IBZ_REASON_BUDGET: return "the budget is spent";
+  case IBZ_REASON_HALTED: return "the machine is halted";
+  case IBZ_REASON_STOPPED: return "the machine waits for an interrupt";
+  case IBZ_REASON_JOURNAL: return "the journal is full";
+  case IBZ_REASON_ADDRESS: return "PC is the stop address";
+  default: return "an unknown reason";
+  }
+}
+
+#ifdef __cplusplus
+}
+#endif
+
+#endif

@@ -1,0 +1,8 @@
+/* stddef.h - as much of C's as c/tests and c/examples use (kit/README). */
+#ifndef KIT_STDDEF_H
+#define KIT_STDDEF_H
+typedef __SIZE_TYPE__ size_t;
+typedef __PTRDIFF_TYPE__ ptrdiff_t;
+#define NULL ((void *)0)
+#define offsetof(type, member) __builtin_offsetof(type, member)
+#endif

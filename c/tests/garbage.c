@@ -1,0 +1,164 @@
+/* garbage.c - a million calls with anything in them, every buffer between pages that can not be touched: one byte read or written
+ * outside ends the test. Whatever was asked, each answer is held to this:
+ *   a number that the call can not give is not given; it is 9 exactly if the block is not 80 bytes long;
+ *   a refused call alters nothing, but a refused reset, which sets the fixed state;
+ *   a step or a run alters the journal between the marks only, and leaves the mark within it; an undo and a reset do not alter it;
+ *   a step that was done, and every step of a run that was done, is taken back by an undo, byte for byte.
+ * Arguments: how many calls, and a seed. */
+#include "tests.h"
+
+enum { LENGTHS = 12, LARGEST = 4096, BLOCKS = 7, BLOCK_MOST = 160 };
+static const size_t lengths[LENGTHS] = {0, 1, 535, 536, 537, 1022, 1023, 1024, 1025, 1026, 2048, LARGEST};
+static const size_t block_lengths[BLOCKS] = {80, 79, 81, 0, 1, 92, BLOCK_MOST};
+
+/* Each at the start of its pages, and at their end. */
+static uint8_t *memories[2][LENGTHS], *journals[2][LENGTHS], *blocks[2][BLOCKS];
+
+/* What is lent, and what it was before the call. */
+static uint8_t *block, *memory, *journal;
+static size_t block_length, memory_length, journal_length, mark;
+static uint8_t old_block[BLOCK_MOST], old_memory[LARGEST], old_journal[LARGEST];
+
+/* Instructions that write, trap, halt, return and jump, so that steps are long and varied. */
+static const uint16_t words[] = {0x48E7, 0xFFFE, 0x4CDF, 0x7FFF, 0x4E40, 0x4AFC, 0x4E72, 0x2700, 0x4E73, 0x46FC, 0x2000, 0x23C0,
+                                 0x0000, 0x0200, 0x60FE, 0x7001, 0x4E75, 0x4EB8, 0x0400, 0x8000, 0x51C8, 0xFFFE, 0xC100, 0xD0FC};
+
+static void fill(uint8_t *p, size_t n) {
+  const unsigned how = below(4);
+  for (size_t i = 0; i < n; i++) p[i] = (uint8_t)(how == 0 ? 0 : how == 1 ? any() : below(8) == 0 ? any() : 0);
+  if (how == 3)
+    for (size_t i = 0; i + 1 < n; i += 2) {
+      const uint16_t w = words[below(sizeof words / sizeof *words)];
+      p[i] = (uint8_t)(w >> 8), p[i + 1] = (uint8_t)w;
+    }
+}
+
+static void fill_block(uint8_t *p, size_t n) {
+  for (size_t i = 0; i < n; i++) p[i] = (uint8_t)any();
+  if (below(16) == 0 || n < IBZ_BLOCK_LENGTH) return;
+  for (unsigned s = 0; s < 18; s++)
+    if (below(4) != 0) ibz_set(p, s, below(2) ? below(2048) * 2 : any());
+  ibz_set(p, IBZ_SR, below(16) ? any() & 0xA71Fu : any() & 0xFFFFu);
+  ibz_set(p, IBZ_MODE, below(16) ? 0 : below(4));
+}
+
+static size_t a_mark(size_t n) {
+  switch (below(8)) {
+  case 0: return SIZE_MAX - below(3);
+  case 1: return n;
+  case 2: return n + 1 + below(600);
+  case 3: return n > 536 ? n - 536 : 0;
+  default: return below((uint32_t)n + 1);
+  }
+}
+
+static void lend(void) {
+  const unsigned end = below(2), b = below(16) ? 0 : below(BLOCKS), m = below(8) ? 7 + 2 * below(2) + 2 * below(2) : below(LENGTHS);
+  const unsigned j = below(8) ? 10 + below(2) : below(LENGTHS);
+  block = blocks[end][b], memory = memories[end][m], journal = journals[end][j];
+  block_length = block_lengths[b], memory_length = lengths[m], journal_length = lengths[j];
+  fill_block(block, block_length), fill(memory, memory_length), fill(journal, journal_length);
+  mark = a_mark(journal_length);
+}
+
+static void keep(void) {
+  memcpy(old_block, block, block_length);
+  memcpy(old_memory, memory, memory_length);
+  memcpy(old_journal, journal, journal_length);
+}
+
+static int same_state(void) { return memcmp(block, old_block, block_length) == 0 && memcmp(memory, old_memory, memory_length) == 0; }
+
+static int same_journal(size_t from, size_t to) { return memcmp(journal + from, old_journal + from, to - from) == 0; }
+
+/* `steps` undos from the mark lead back to what was kept, and to the mark of then; then all is put as it was found. */
+static void there_and_back(uint32_t steps, size_t next) {
+  static uint8_t now_block[IBZ_BLOCK_LENGTH], now_memory[LARGEST];
+  memcpy(now_block, block, sizeof now_block), memcpy(now_memory, memory, memory_length);
+  size_t at = next;
+  for (uint32_t i = 0; i < steps; i++) {
+    const struct ibz_undo_answer a = ibz_undo(block, block_length, memory, memory_length, journal, journal_length, at);
+    EXPECT(a.number == 0 && a.mark < at);
+    at = a.mark;
+  }
+  EXPECT(at == mark && same_state());
+  memcpy(block, now_block, sizeof now_block), memcpy(memory, now_memory, memory_length);
+}
+
+static int can_give(const char *numbers, uint32_t number) { return number <= 9 && strchr(numbers, '0' + (int)number) != NULL; }
+
+static uint32_t one_reset(void) {
+  const uint32_t number = ibz_reset(block, block_length, memory, memory_length).number;
+  EXPECT(can_give("019", number) && memcmp(memory, old_memory, memory_length) == 0 && same_journal(0, journal_length));
+  if (number == 1)
+    for (unsigned s = 0; s < IBZ_SLOTS; s++) EXPECT(ibz_get(block, s) == (s == IBZ_MODE ? 2u : 0u));
+  EXPECT(number != 9 || same_state());
+  return number;
+}
+
+static uint32_t one_step(void) {
+  const uint32_t level = below(4) ? 0 : below(4) ? below(8) : any();
+  const struct ibz_step_answer a = ibz_step(block, block_length, memory, memory_length, level, (uint8_t)any(), journal, journal_length, mark);
+  EXPECT(can_give("01234569", a.number) && a.event <= IBZ_EVENT_HALT);
+  if (a.number == 0) {
+    EXPECT(a.mark > mark && a.mark - mark <= IBZ_RECORD_MOST && a.mark <= journal_length);
+    EXPECT(same_journal(0, mark) && same_journal(a.mark, journal_length));
+    there_and_back(1, a.mark);
+  } else {
+    EXPECT(a.mark == mark && a.event == 0 && same_state() && same_journal(0, journal_length));
+  }
+  mark = a.mark;
+  return a.number;
+}
+
+static uint32_t one_run(void) {
+  const uint32_t budget = below(16) ? below(40) : any();
+  const struct ibz_run_answer a = ibz_run(block, block_length, memory, memory_length, budget, below(2048), journal, journal_length, mark);
+  EXPECT(can_give("012349", a.number));
+  if (a.number == 0) {
+    EXPECT(a.reason >= 1 && a.reason <= 5 && a.steps <= budget && a.mark >= mark && a.mark <= journal_length);
+    EXPECT(same_journal(0, mark) && same_journal(a.mark, journal_length));
+    there_and_back(a.steps, a.mark);
+  } else {
+    EXPECT(a.mark == mark && a.reason == 0 && a.steps == 0 && same_state() && same_journal(0, journal_length));
+  }
+  mark = a.mark;
+  return a.number;
+}
+
+static uint32_t one_undo(void) {
+  const struct ibz_undo_answer a = ibz_undo(block, block_length, memory, memory_length, journal, journal_length, mark);
+  EXPECT(can_give("0124789", a.number) && same_journal(0, journal_length));
+  EXPECT(a.number == 0 ? a.mark < mark : a.mark == mark && same_state());
+  mark = a.mark;
+  return a.number;
+}
+
+int main(int argc, char **argv) {
+  const unsigned long calls = argc > 1 ? strtoul(argv[1], NULL, 10) : 1000000;
+  if (argc > 2) seed ^= strtoul(argv[2], NULL, 10) * 2654435761u;
+  unsigned long counts[4][10] = {{0}};
+  for (int end = 0; end < 2; end++) {
+    for (unsigned i = 0; i < LENGTHS; i++) memories[end][i] = guarded(lengths[i], end), journals[end][i] = guarded(lengths[i], end);
+    for (unsigned i = 0; i < BLOCKS; i++) blocks[end][i] = guarded(block_lengths[i], end);
+  }
+  for (unsigned long done = 0; done < calls;) {
+    lend();
+    for (unsigned turn = below(24); turn > 0 && done < calls; turn--, done++) {
+      keep();
+      const unsigned call = below(16) == 0 ? 0 : 1 + below(3);
+      const uint32_t number = call == 0 ? one_reset() : call == 1 ? one_step() : call == 2 ? one_run() : one_undo();
+      EXPECT((number == 9) == (block_length != IBZ_BLOCK_LENGTH));
+      counts[call][number <= 9 ? number : 9]++;
+      if (fails > 20) return verdict("garbage");
+    }
+  }
+  static const char *const names[] = {"reset", "step", "run", "undo"};
+  for (unsigned c = 0; c < 4; c++) {
+    printf("%-5s", names[c]);
+    for (unsigned n = 0; n < 10; n++)
+      if (counts[c][n] != 0) printf("  %u: %lu", n, counts[c][n]);
+    puts("");
+  }
+  return verdict("garbage");
+}

@@ -1,0 +1,42 @@
+/* threads.c - several machines at once, a thread each: every one ends as it does alone. Each runs, steps with interrupts and goes back
+ * on an image from standard input, in another order than the others. */
+#include "tests.h"
+#include <pthread.h>
+
+enum { THREADS = 4, TURNS = 200, MEMORY = 65536, JOURNAL = 65536 };
+
+struct machine {
+  unsigned turn;
+  size_t mark;
+  uint8_t block[IBZ_BLOCK_LENGTH], memory[MEMORY], journal[JOURNAL];
+};
+
+static struct machine at_once[THREADS], alone[THREADS];
+static uint8_t image[MEMORY];
+
+static void *work(void *p) {
+  struct machine *x = (struct machine *)p;
+  memcpy(x->memory, image, MEMORY);
+  ibz_reset(x->block, sizeof x->block, x->memory, MEMORY);
+  for (unsigned i = 0; i < TURNS; i++) {
+    const struct ibz_run_answer a =
+        ibz_run(x->block, sizeof x->block, x->memory, MEMORY, 300 + 7 * x->turn, 0xFFFFFFFFu, x->journal, JOURNAL, x->mark);
+    x->mark = a.mark;
+    x->mark = ibz_step(x->block, sizeof x->block, x->memory, MEMORY, (i + x->turn) % 8, (uint8_t)i, x->journal, JOURNAL, x->mark).mark;
+    for (unsigned k = 0; k < 250 + x->turn; k++)
+      x->mark = ibz_undo(x->block, sizeof x->block, x->memory, MEMORY, x->journal, JOURNAL, x->mark).mark;
+  }
+  return NULL;
+}
+
+int main(void) {
+  pthread_t threads[THREADS];
+  EXPECT(fread(image, 1, MEMORY, stdin) > 8);
+  for (unsigned i = 0; i < THREADS; i++) at_once[i].turn = alone[i].turn = i;
+  for (unsigned i = 0; i < THREADS; i++) EXPECT(pthread_create(&threads[i], NULL, work, &at_once[i]) == 0);
+  for (unsigned i = 0; i < THREADS; i++) work(&alone[i]);
+  for (unsigned i = 0; i < THREADS; i++) EXPECT(pthread_join(threads[i], NULL) == 0);
+  for (unsigned i = 0; i < THREADS; i++) EXPECT(memcmp(&at_once[i], &alone[i], sizeof alone[i]) == 0 && alone[i].mark > 0);
+  EXPECT(memcmp(alone[0].block, alone[1].block, sizeof alone[0].block) != 0); /* they did not all do the same */
+  return verdict("threads");
+}
