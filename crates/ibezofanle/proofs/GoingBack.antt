@@ -37,6 +37,10 @@ module _ (x : Box) (e : length (x .block) ≡ block-length) where
   abbrev held : {A : Type 0} → List ℕ → List ℕ → List ℕ → A → OnBlock A
   held s m j a = record { b = block-of s; m = m; j = j; a = a }
 
+  -- what is kept of it for the next call
+  abbrev kept : {A : Type 0} → (A → ℕ) → OnBlock A → Box
+  kept mark c = record { block = c .b; memory = c .m; journal = c .j; mark = mark (c .a) }
+
   ibz-stepping-held : (level vector : ℕ) → ibz-stepping level vector x ≡ (let c = stepping level vector (machine-in x) in held (c .s) (c .m) (c .j) (c .a))
   unfolding ibz-step
   ibz-stepping-held level vector = on-block-held (x .block) (x .memory) (x .journal) (step-refusal (x .mark)) _ _ _ _ e
@@ -52,9 +56,9 @@ module _ (x : Box) (e : length (x .block) ≡ block-length) where
   -- so the box after it is that of the machine after the machine's call, and as many steps are accepted, undone and left
   ibz-act-held : (c : Call) → ibz-act c x ≡ box-of (act c (machine-in x))
   unfolding act ibz-act
-  ibz-act-held (step-of level vector) = ap {B = Box} (λ c. record { block = c .b; memory = c .m; journal = c .j; mark = c .a .mark }) (ibz-stepping-held level vector)
-  ibz-act-held (run-of budget stop) = ap {B = Box} (λ c. record { block = c .b; memory = c .m; journal = c .j; mark = c .a .mark }) (ibz-running-held budget stop)
-  ibz-act-held undo-once = ap {B = Box} (λ c. record { block = c .b; memory = c .m; journal = c .j; mark = c .a .mark }) ibz-undoing-held
+  ibz-act-held (step-of level vector) = ap (kept (λ a. a .mark)) (ibz-stepping-held level vector)
+  ibz-act-held (run-of budget stop) = ap (kept (λ a. a .mark)) (ibz-running-held budget stop)
+  ibz-act-held undo-once = ap (kept (λ a. a .mark)) ibz-undoing-held
 
   accepted-held : (c : Call) → ibz-accepted c x ≡ accepted c (machine-in x)
   unfolding accepted ibz-accepted

@@ -28,12 +28,12 @@ use Rattle.ibezofanle.specs.Calls.{no-block, block-fits, IbzReset, OnBlo
 use Rattle.ibezofanle.specs.Refusals.{block-line, ibz-reset-table, ibz-step-table, ibz-run-table, ibz-undo-table}
 use Rattle.ibezofanle.proofs.BlockLaws.{block-of-slots-in}
 
--- ---- what is proved of a call's number c on block b, where t is the machine's table
-pub record IbzVerdict (b : List ℕ) (t : List Line) (c : ℕ) : Type 1 where
-  pub exactly : (n : ℕ) → ((c ≡ n) ↔ Given (block-line b ∷ t) n)
+-- ---- what is proved of a call's number c on block b, its table t, and the machine's table, the rest of t
+pub record IbzVerdict (b : List ℕ) (t rest : List Line) (c : ℕ) : Type 1 where
+  pub exactly : (n : ℕ) → ((c ≡ n) ↔ Given t n)
   pub nine : (c ≡ no-block) ↔ (length b ≡ block-length → ⊥)
-  pub lowest : length b ≡ block-length → Lowest c t
-  pub done : (c ≡ 0) ↔ NoneApplies (block-line b ∷ t)
+  pub lowest : length b ≡ block-length → Lowest c rest
+  pub done : (c ≡ 0) ↔ NoneApplies t
 
 -- every number of a table is below 9
 abbrev BelowNine : List Line → Type 0
@@ -53,32 +53,35 @@ module _ (b : List ℕ) (t : List Line) (k : ℕ) (v : Verdict t k) (below : Bel
   small : k < no-block
   small = given-below-nine t k below given
 
-  verdict-held : length b ≡ block-length → IbzVerdict b t k
+  abbrev whole : List Line
+  whole = block-line b ∷ t
+
+  verdict-held : length b ≡ block-length → IbzVerdict b whole t k
   verdict-held e =
       let fits : (length b ≡ block-length → ⊥) → ⊥ = λ h. h e in
-      let g : Given (block-line b ∷ t) k = later fits given in
+      let g : Given whole k = later fits given in
       record {
-        exactly = λ n. (λ q. subst (Given (block-line b ∷ t)) q g, λ h. given-unique (block-line b ∷ t) k n g h);
+        exactly = λ n. (λ q. subst (Given whole) q g, λ h. given-unique whole k n g h);
         nine = (λ q. absurd (omega (arith, small)), λ h. absurd (h e));
         lowest = λ _. v .lowest;
         done = (λ q. (fits, v .done .0 q), λ h. v .done .1 (h .1));
       }
 
-  verdict-nine : (length b ≡ block-length → ⊥) → IbzVerdict b t no-block
+  verdict-nine : (length b ≡ block-length → ⊥) → IbzVerdict b whole t no-block
   verdict-nine h =
-      let g : Given (block-line b ∷ t) no-block = this h refl in
+      let g : Given whole no-block = this h refl in
       record {
-        exactly = λ n. (λ q. subst (Given (block-line b ∷ t)) q g, λ i. given-unique (block-line b ∷ t) no-block n g i);
+        exactly = λ n. (λ q. subst (Given whole) q g, λ i. given-unique whole no-block n g i);
         nine = (λ _. h, λ _. refl);
         lowest = λ e. absurd (h e);
         done = (λ q. absurd (omega arith), λ i. absurd (i .0 h));
       }
 
   -- whatever the call gives, if its number is k where the block fits and 9 where it does not
-  pub ibz-verdict : {A : Type 0} (number : A → ℕ) (x y : A) → number x ≡ k → number y ≡ no-block → IbzVerdict b t (number (pick (block-fits b) x y))
+  pub ibz-verdict : {A : Type 0} (number : A → ℕ) (x y : A) → number x ≡ k → number y ≡ no-block → IbzVerdict b whole t (number (pick (block-fits b) x y))
   ibz-verdict number x y p q = go (block-fits b) refl
     where
-      go : (f : Bool) → block-fits b ≡ f → IbzVerdict b t (number (pick f x y))
+      go : (f : Bool) → block-fits b ≡ f → IbzVerdict b whole t (number (pick f x y))
       go true e = rw p (verdict-held (eqb-true (length b) block-length e))
       go false e = rw q (verdict-nine (eqb-false (length b) block-length e))
 
@@ -108,7 +111,7 @@ module _ {A : Type 0} (number : A → ℕ) (refusal : ℕ → A) (is : (n : ℕ)
 
 -- ---- reset
 module _ (b m : List ℕ) where
-  pub ibz-reset-verdict : IbzVerdict b (reset-table m) (ibz-reset b m .a .number)
+  pub ibz-reset-verdict : IbzVerdict b (ibz-reset-table b m) (reset-table m) (ibz-reset b m .a .number)
   unfolding ibz-reset
   ibz-reset-verdict = ibz-verdict b (reset-table m) (reset-number m) (reset-verdict m) (omega arith) (λ (c : IbzReset). c .a .number) _ _ refl refl
 
@@ -125,51 +128,63 @@ module _ (b m : List ℕ) (level vector : ℕ) (j : List ℕ) (mark : ℕ) where
   abbrev stepped : StepCall
   stepped = step-call (slots-in b) m level vector j mark
 
-  pub ibz-step-verdict : IbzVerdict b (step-table (slots-in b) m level j mark) (ibz-step b m level vector j mark .a .number)
+  abbrev step-lines : List Line
+  step-lines = step-table (slots-in b) m level j mark
+
+  pub ibz-step-verdict : IbzVerdict b (ibz-step-table b m level j mark) step-lines (ibz-step b m level vector j mark .a .number)
   unfolding ibz-step
   ibz-step-verdict =
-      ibz-verdict b (step-table (slots-in b) m level j mark) (stepped .a .number) (step-verdict (slots-in b) m level j mark vector) (omega arith) (λ (c : OnBlock StepAnswer). c .a .number) _ _ refl refl
+      let v = step-verdict (slots-in b) m level j mark vector in
+      ibz-verdict b step-lines (stepped .a .number) v (omega arith) (λ (c : OnBlock StepAnswer). c .a .number) _ _ refl refl
 
   pub ibz-step-refused : ValidBytes b → (ibz-step b m level vector j mark .a .number ≡ 0 → ⊥)
-      → ibz-step b m level vector j mark ≡ record { b = b; m = m; j = j; a = step-refusal mark (ibz-step b m level vector j mark .a .number) }
+      → (let c = ibz-step b m level vector j mark in c ≡ record { b = b; m = m; j = j; a = step-refusal mark (c .a .number) })
   unfolding ibz-step
   ibz-step-refused bytes =
       on-block-refused (λ a. a .number) (step-refusal mark) (λ n. refl) b m j bytes (stepped .s) (stepped .m) (stepped .j) (stepped .a)
       (λ h. let r = step-refused (slots-in b) m level j mark vector h in
-      record { slots = ap (λ (c : StepCall). c .s) r; memory = ap (λ (c : StepCall). c .m) r; journal = ap (λ (c : StepCall). c .j) r; answer = ap (λ (c : StepCall). c .a) r })
+      record { slots = λ i. r i .s; memory = λ i. r i .m; journal = λ i. r i .j; answer = λ i. r i .a })
 
 -- ---- run
 module _ (b m : List ℕ) (budget stop : ℕ) (j : List ℕ) (mark : ℕ) where
   abbrev ran : RunCall
   ran = run-call (slots-in b) m budget stop j mark
 
-  pub ibz-run-verdict : IbzVerdict b (run-table (slots-in b) m budget j mark) (ibz-run b m budget stop j mark .a .number)
+  abbrev run-lines : List Line
+  run-lines = run-table (slots-in b) m budget j mark
+
+  pub ibz-run-verdict : IbzVerdict b (ibz-run-table b m budget j mark) run-lines (ibz-run b m budget stop j mark .a .number)
   unfolding ibz-run
   ibz-run-verdict =
-      ibz-verdict b (run-table (slots-in b) m budget j mark) (ran .a .number) (run-verdict (slots-in b) m budget j mark stop) (omega arith) (λ (c : OnBlock RunAnswer). c .a .number) _ _ refl refl
+      let v = run-verdict (slots-in b) m budget j mark stop in
+      ibz-verdict b run-lines (ran .a .number) v (omega arith) (λ (c : OnBlock RunAnswer). c .a .number) _ _ refl refl
 
   pub ibz-run-refused : ValidBytes b → (ibz-run b m budget stop j mark .a .number ≡ 0 → ⊥)
-      → ibz-run b m budget stop j mark ≡ record { b = b; m = m; j = j; a = run-refusal mark (ibz-run b m budget stop j mark .a .number) }
+      → (let c = ibz-run b m budget stop j mark in c ≡ record { b = b; m = m; j = j; a = run-refusal mark (c .a .number) })
   unfolding ibz-run
   ibz-run-refused bytes =
       on-block-refused (λ a. a .number) (run-refusal mark) (λ n. refl) b m j bytes (ran .s) (ran .m) (ran .j) (ran .a)
       (λ h. let r = run-refused (slots-in b) m budget j mark stop h in
-      record { slots = ap (λ (c : RunCall). c .s) r; memory = ap (λ (c : RunCall). c .m) r; journal = ap (λ (c : RunCall). c .j) r; answer = ap (λ (c : RunCall). c .a) r })
+      record { slots = λ i. r i .s; memory = λ i. r i .m; journal = λ i. r i .j; answer = λ i. r i .a })
 
 -- ---- undo
 module _ (b m j : List ℕ) (mark : ℕ) where
   abbrev undone : UndoCall
   undone = undo-call (slots-in b) m j mark
 
-  pub ibz-undo-verdict : IbzVerdict b (undo-table (slots-in b) m j mark) (ibz-undo b m j mark .a .number)
+  abbrev undo-lines : List Line
+  undo-lines = undo-table (slots-in b) m j mark
+
+  pub ibz-undo-verdict : IbzVerdict b (ibz-undo-table b m j mark) undo-lines (ibz-undo b m j mark .a .number)
   unfolding ibz-undo
   ibz-undo-verdict =
-      ibz-verdict b (undo-table (slots-in b) m j mark) (undone .a .number) (undo-verdict (slots-in b) m j mark) (omega arith) (λ (c : OnBlock UndoAnswer). c .a .number) _ _ refl refl
+      let v = undo-verdict (slots-in b) m j mark in
+      ibz-verdict b undo-lines (undone .a .number) v (omega arith) (λ (c : OnBlock UndoAnswer). c .a .number) _ _ refl refl
 
   pub ibz-undo-refused : ValidBytes b → (ibz-undo b m j mark .a .number ≡ 0 → ⊥)
-      → ibz-undo b m j mark ≡ record { b = b; m = m; j = j; a = undo-refusal mark (ibz-undo b m j mark .a .number) }
+      → (let c = ibz-undo b m j mark in c ≡ record { b = b; m = m; j = j; a = undo-refusal mark (c .a .number) })
   unfolding ibz-undo
   ibz-undo-refused bytes =
       on-block-refused (λ a. a .number) (undo-refusal mark) (λ n. refl) b m j bytes (undone .s) (undone .m) j (undone .a)
       (λ h. let r = undo-refused (slots-in b) m j mark h in
-      record { slots = ap (λ (c : UndoCall). c .s) r; memory = ap (λ (c : UndoCall). c .m) r; journal = refl; answer = ap (λ (c : UndoCall). c .a) r })
+      record { slots = λ i. r i .s; memory = λ i. r i .m; journal = refl; answer = λ i. r i .a })
