@@ -1,5 +1,5 @@
-# counting.sh - what `count` and `growth` share: bench built, a counter of x86-64 instructions, a step's and an undo's.
-# Means: nothing; read by the two (`. counting.sh`) after they set `here`, the folder of all three.
+# counting.sh - what `count`, `growth` and `calls` share: a counter of x86-64 instructions; bench built, a step's and an undo's.
+# Means: nothing; read by the three (`. counting.sh`) after they set `here`, the folder of all of them.
 # Source: [ours].
 #
 # COUNTER=qemu counts by the plugin executed.c for qemu-user, on any machine; COUNTER=valgrind by callgrind, on x86-64,
@@ -17,12 +17,17 @@ need() { # COMMAND PACKAGES..
 
 is_steps() { case $1 in '' | *[!0-9]* | 0*) die "STEPS is a number, 1 or more" ;; esac; }
 
+# Builds bench, the program that is counted unless another is set.
+build_bench() {
+    "$root/run" bench </dev/null || die "bench could not be built"
+    program=$root/target/bin/bench
+}
+
 # Makes all ready to count: sets root, lib, work and counter.
 start_counting() {
     root=$here/../..
     counter=${COUNTER:-}
     command -v rt >/dev/null || die "rt, the command of the Rattle kit, is not on the PATH"
-    "$root/run" bench </dev/null || die "bench could not be built"
     lib=${RATTLE_HOME:-$(dirname "$(readlink -f "$(command -v rt)")")/..}/on/$(uname -m)/toolchain/lib
     work=$(mktemp -d)
     trap 'rm -rf "$work"' EXIT
@@ -51,19 +56,19 @@ start_counting() {
     ulimit -S -s 65536 2>/dev/null || die "the stack limit, $(ulimit -H -s) KiB, is below 65536"
 }
 
-# Prints the instructions of one run.
+# Prints the instructions of one run of the program.
 counted() { # IMAGE ARGS..
     image=$1
     shift
-    set -- "$lib/ld-linux-x86-64.so.2" --library-path "$lib" "$root/target/bin/bench" "$@"
+    set -- "$lib/ld-linux-x86-64.so.2" --library-path "$lib" "$program" "$@"
     if [ "$counter" = qemu ]; then
         set -- qemu-x86_64 -plugin "$work/executed.so" "$@"
     else
         set -- valgrind --tool=callgrind --callgrind-out-file=/dev/null --main-stacksize=67108864 \
             --max-stackframe=33554432 "$@"
     fi
-    "$@" <"$image" >"$work/wrote" 2>"$work/said" || die "bench did not end well: $(tail -n 1 "$work/said")"
-    [ -s "$work/wrote" ] || die "bench wrote nothing: $(tail -n 1 "$work/said")"
+    "$@" <"$image" >"$work/wrote" 2>"$work/said" || die "$(basename "$program") did not end well: $(tail -n 1 "$work/said")"
+    [ -s "$work/wrote" ] || die "$(basename "$program") wrote nothing: $(tail -n 1 "$work/said")"
     sed -n -e 's/^executed //p' -e 's/.*Collected : *//p' "$work/said"
 }
 

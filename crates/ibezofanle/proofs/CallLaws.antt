@@ -11,7 +11,7 @@ use Rattle.machine.specs.declared.StepAnswer.{StepAnswer}
 use Rattle.machine.specs.declared.RunAnswer.{RunAnswer}
 use Rattle.machine.specs.declared.UndoAnswer.{UndoAnswer}
 use Rattle.machine.specs.Promises.{ResetPromise, StepPromise, RunPromise, UndoPromise}
-use Rattle.ibezofanle.specs.Block.{block-length, slots-in, block-of}
+use Rattle.block.specs.Block.{block-length, slots-in, block-of}
 use Rattle.ibezofanle.specs.Calls.{no-block, OnBlock, on-block, step-refusal, run-refusal, undo-refusal, ibz-reset, ibz-step, ibz-run, ibz-undo}
 use Rattle.ibezofanle.specs.Promises.{IbzResetPromise, IbzStepPromise, IbzRunPromise, IbzUndoPromise}
 
@@ -29,7 +29,8 @@ module _ (b m : List ℕ) where
   unfolding ibz-reset
   ibz-reset-nine h = let y = ne-eqb (length b) block-length h in record { block = rw y; answer = rw y }
 
-  pub ibz-reset-held : length b ≡ block-length → (s : List ℕ) (n : ℕ) → ResetPromise m s n → (b₁ : List ℕ) → b₁ ≡ block-of s → IbzResetPromise b m b₁ (record { number = n })
+  pub ibz-reset-held : length b ≡ block-length → (s : List ℕ) (n : ℕ) → ResetPromise m s n
+      → (b₁ : List ℕ) → b₁ ≡ block-of s → IbzResetPromise b m b₁ (record { number = n })
   unfolding ibz-reset
   ibz-reset-held e s n p b₁ q =
       let y = eq-eqb (length b) block-length e in record { block = rw y (q ∙ ap block-of (p .slots)); answer = rw (y, p .number-is) }
@@ -40,7 +41,8 @@ module _ (b m : List ℕ) (level vector : ℕ) (j : List ℕ) (mark : ℕ) where
   unfolding ibz-step
   ibz-step-nine h = let y = ne-eqb (length b) block-length h in record { block = rw y; memory = rw y; journal = rw y; answer = rw y }
 
-  pub ibz-step-held : length b ≡ block-length → (s s₁ m₁ j₁ : List ℕ) (a : StepAnswer) → s ≡ slots-in b → StepPromise s m level vector j mark s₁ m₁ j₁ a
+  pub ibz-step-held : length b ≡ block-length → (s s₁ m₁ j₁ : List ℕ) (a : StepAnswer) → s ≡ slots-in b
+      → StepPromise s m level vector j mark s₁ m₁ j₁ a
       → (b₁ : List ℕ) → b₁ ≡ block-of s₁ → IbzStepPromise b m level vector j mark b₁ m₁ j₁ a
   unfolding ibz-step
   ibz-step-held e s s₁ m₁ j₁ a l p b₁ q =
@@ -54,7 +56,8 @@ module _ (b m : List ℕ) (budget stop : ℕ) (j : List ℕ) (mark : ℕ) where
   unfolding ibz-run
   ibz-run-nine h = let y = ne-eqb (length b) block-length h in record { block = rw y; memory = rw y; journal = rw y; answer = rw y }
 
-  pub ibz-run-held : length b ≡ block-length → (s s₁ m₁ j₁ : List ℕ) (a : RunAnswer) → s ≡ slots-in b → RunPromise s m budget stop j mark s₁ m₁ j₁ a
+  pub ibz-run-held : length b ≡ block-length → (s s₁ m₁ j₁ : List ℕ) (a : RunAnswer) → s ≡ slots-in b
+      → RunPromise s m budget stop j mark s₁ m₁ j₁ a
       → (b₁ : List ℕ) → b₁ ≡ block-of s₁ → IbzRunPromise b m budget stop j mark b₁ m₁ j₁ a
   unfolding ibz-run
   ibz-run-held e s s₁ m₁ j₁ a l p b₁ q =

@@ -21,10 +21,10 @@ use Rattle.machine.specs.History.{Machine, Request, Call, step-of, run-of, undo
 use Rattle.machine.proofs.ValidLaws.{Lent}
 use Rattle.machine.proofs.SlotsLaws.{twenty-of-act}
 use Rattle.machine.proofs.GoingBack.{going-back, undo-when-standing}
-use Rattle.ibezofanle.specs.Block.{block-length, slots-in, block-of}
+use Rattle.block.specs.Block.{block-length, slots-in, block-of}
 use Rattle.ibezofanle.specs.Calls.{OnBlock, step-refusal, run-refusal, undo-refusal, ibz-step, ibz-run, ibz-undo}
 use Rattle.ibezofanle.specs.History.{Box, ibz-stepping, ibz-running, ibz-undoing, ibz-act, ibz-after, ibz-accepted, ibz-undone, IbzNeverAhead, ibz-left-by, ibz-standing, BoxSeen, ibz-seen, machine-in, in-block}
-use Rattle.ibezofanle.proofs.BlockLaws.{length-of-slots, length-of-block, words-of-slots, slots-in-block, block-of-slots-in}
+use Rattle.block.proofs.BlockLaws.{length-of-slots, length-of-block, words-of-slots, slots-in-block, block-of-slots-in}
 use Rattle.ibezofanle.proofs.CallLaws.{on-block-held}
 
 -- the box of a machine: the block that holds its slots
@@ -41,11 +41,13 @@ module _ (x : Box) (e : length (x .block) ≡ block-length) where
   abbrev kept : {A : Type 0} → (A → ℕ) → OnBlock A → Box
   kept mark c = record { block = c .b; memory = c .m; journal = c .j; mark = mark (c .a) }
 
-  ibz-stepping-held : (level vector : ℕ) → ibz-stepping level vector x ≡ (let c = stepping level vector (machine-in x) in held (c .s) (c .m) (c .j) (c .a))
+  ibz-stepping-held : (level vector : ℕ)
+      → ibz-stepping level vector x ≡ (let c = stepping level vector (machine-in x) in held (c .s) (c .m) (c .j) (c .a))
   unfolding ibz-step
   ibz-stepping-held level vector = on-block-held (x .block) (x .memory) (x .journal) (step-refusal (x .mark)) _ _ _ _ e
 
-  ibz-running-held : (budget stop : ℕ) → ibz-running budget stop x ≡ (let c = running-on budget stop (machine-in x) in held (c .s) (c .m) (c .j) (c .a))
+  ibz-running-held : (budget stop : ℕ)
+      → ibz-running budget stop x ≡ (let c = running-on budget stop (machine-in x) in held (c .s) (c .m) (c .j) (c .a))
   unfolding ibz-run
   ibz-running-held budget stop = on-block-held (x .block) (x .memory) (x .journal) (run-refusal (x .mark)) _ _ _ _ e
 
@@ -74,7 +76,8 @@ module _ (x : Box) (e : length (x .block) ≡ block-length) where
 
   left-by-held : (c : Call) (rs : List Request) → ibz-left-by c x rs ≡ left-by c (machine-in x) rs
   unfolding left-by ibz-left-by
-  left-by-held (step-of level vector) rs = ap (λ c. pick (eqb (c .a .number) 0) (record { level = level; vector = vector } ∷ rs) rs) (ibz-stepping-held level vector)
+  left-by-held (step-of level vector) rs =
+      ap (λ c. pick (eqb (c .a .number) 0) (record { level = level; vector = vector } ∷ rs) rs) (ibz-stepping-held level vector)
   left-by-held (run-of budget stop) rs = ap (λ c. iter plain-step (c .a .steps) rs) (ibz-running-held budget stop)
   left-by-held undo-once rs = ap (λ c. pick (eqb (c .a .number) 0) (all-but-last rs) rs) ibz-undoing-held
 
@@ -85,7 +88,8 @@ module _ (x : Box) (e : length (x .block) ≡ block-length) where
   carried-one c =
       let y = act c (machine-in x) in
       ap machine-in (ibz-act-held c)
-      ∙ ap {B = Machine} (λ (s : List ℕ). record { slots = s; memory = y .memory; journal = y .journal; mark = y .mark }) (slots-in-block (y .slots) (twenty-after c))
+      ∙ ap {B = Machine} (λ (s : List ℕ). record { slots = s; memory = y .memory; journal = y .journal; mark = y .mark })
+      (slots-in-block (y .slots) (twenty-after c))
 
   fits-after : (c : Call) → length (ibz-act c x .block) ≡ block-length
   fits-after c =
@@ -104,7 +108,8 @@ carried [] x e = refl
 carried (c ∷ cs) x e = carried cs (ibz-act c x) (fits-after x e c) ∙ ap (after cs) (carried-one x e c)
 
 -- the steps that stand, and that they are never ahead, are the machine's
-standing-carried : (cs : List Call) (x : Box) → length (x .block) ≡ block-length → (rs : List Request) → ibz-standing cs x rs ≡ standing cs (machine-in x) rs
+standing-carried : (cs : List Call) (x : Box) → length (x .block) ≡ block-length
+    → (rs : List Request) → ibz-standing cs x rs ≡ standing cs (machine-in x) rs
 standing-carried [] x e rs = refl
 standing-carried (c ∷ cs) x e rs =
     standing-carried cs (ibz-act c x) (fits-after x e c) (ibz-left-by c x rs)
@@ -124,7 +129,8 @@ fits-along : (cs : List Call) (x : Box) → length (x .block) ≡ block-length �
 fits-along [] x e = e
 fits-along (c ∷ cs) x e = fits-along cs (ibz-act c x) (fits-after x e c)
 
-settled-along : (cs : List Call) (x : Box) → length (x .block) ≡ block-length → block-of (slots-in (x .block)) ≡ x .block → block-of (slots-in (ibz-after cs x .block)) ≡ ibz-after cs x .block
+settled-along : (cs : List Call) (x : Box) → length (x .block) ≡ block-length → block-of (slots-in (x .block)) ≡ x .block
+    → block-of (slots-in (ibz-after cs x .block)) ≡ ibz-after cs x .block
 settled-along [] x e q = q
 settled-along (c ∷ cs) x e q = settled-along cs (ibz-act c x) (fits-after x e c) (settled-after x e c)
 
@@ -169,7 +175,8 @@ module _ (x : Box) (l : Lends x) where
         ∙ sym (seen-in-block x settled-start)
 
     pub ibz-undo-when-standing : (r : Request) (rs : List Request) → ibz-standing cs x [] ≡ r ∷ rs
-        → (ibz-undoing (ibz-after cs x) .a .number ≡ 0) × (ibz-seen (ibz-act undo-once (ibz-after cs x)) ≡ in-block (taken-alone rs (seen (machine-in x))))
+        → (ibz-undoing (ibz-after cs x) .a .number ≡ 0)
+        × (ibz-seen (ibz-act undo-once (ibz-after cs x)) ≡ in-block (taken-alone rs (seen (machine-in x))))
     ibz-undo-when-standing r rs e =
         let z = ibz-after cs x in
         let fits = fits-along cs x (l .fits) in

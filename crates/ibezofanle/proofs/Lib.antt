@@ -1,4 +1,3 @@
-pub mod BlockLaws
 pub mod PromiseLaws
 pub mod CallLaws
 pub mod RefusalLaws

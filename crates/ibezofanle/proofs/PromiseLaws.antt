@@ -13,12 +13,14 @@ use Rattle.ibezofanle.specs.Promises.{IbzResetPromise, IbzStepPromise, I
 pub ibz-reset-unique : (b m b₁ b₂ : List ℕ) (a₁ a₂ : ResetAnswer) → IbzResetPromise b m b₁ a₁ → IbzResetPromise b m b₂ a₂ → (b₁ ≡ b₂) × (a₁ ≡ a₂)
 ibz-reset-unique b m b₁ b₂ a₁ a₂ p q = (cc, cc)
 
-pub ibz-step-unique : (b m : List ℕ) (level vector : ℕ) (j : List ℕ) (mark : ℕ) (b₁ m₁ j₁ : List ℕ) (a₁ : StepAnswer) (b₂ m₂ j₂ : List ℕ) (a₂ : StepAnswer)
+pub ibz-step-unique : (b m : List ℕ) (level vector : ℕ) (j : List ℕ) (mark : ℕ)
+    (b₁ m₁ j₁ : List ℕ) (a₁ : StepAnswer) (b₂ m₂ j₂ : List ℕ) (a₂ : StepAnswer)
     → IbzStepPromise b m level vector j mark b₁ m₁ j₁ a₁ → IbzStepPromise b m level vector j mark b₂ m₂ j₂ a₂
     → (b₁ ≡ b₂) × (m₁ ≡ m₂) × (j₁ ≡ j₂) × (a₁ ≡ a₂)
 ibz-step-unique b m level vector j mark b₁ m₁ j₁ a₁ b₂ m₂ j₂ a₂ p q = (cc, cc, cc, cc)
 
-pub ibz-run-unique : (b m : List ℕ) (budget stop : ℕ) (j : List ℕ) (mark : ℕ) (b₁ m₁ j₁ : List ℕ) (a₁ : RunAnswer) (b₂ m₂ j₂ : List ℕ) (a₂ : RunAnswer)
+pub ibz-run-unique : (b m : List ℕ) (budget stop : ℕ) (j : List ℕ) (mark : ℕ)
+    (b₁ m₁ j₁ : List ℕ) (a₁ : RunAnswer) (b₂ m₂ j₂ : List ℕ) (a₂ : RunAnswer)
     → IbzRunPromise b m budget stop j mark b₁ m₁ j₁ a₁ → IbzRunPromise b m budget stop j mark b₂ m₂ j₂ a₂
     → (b₁ ≡ b₂) × (m₁ ≡ m₂) × (j₁ ≡ j₂) × (a₁ ≡ a₂)
 ibz-run-unique b m budget stop j mark b₁ m₁ j₁ a₁ b₂ m₂ j₂ a₂ p q = (cc, cc, cc, cc)

@@ -23,10 +23,10 @@ use Rattle.machine.specs.declared.UndoAnswer.{UndoAnswer}
 use Rattle.machine.specs.Calls.{StepCall, RunCall, UndoCall, refused-slots, reset-number, reset-call, step-call, run-call, undo-call}
 use Rattle.machine.specs.Refusals.{Line, Given, zero-at-end, this, later, NoneApplies, reset-table, step-table, run-table, undo-table}
 use Rattle.machine.proofs.RefusalLaws.{Lowest, Verdict, given-unique, reset-verdict, step-verdict, run-verdict, undo-verdict, reset-refused, step-refused, run-refused, undo-refused}
-use Rattle.ibezofanle.specs.Block.{block-length, slots-in, block-of}
+use Rattle.block.specs.Block.{block-length, slots-in, block-of}
 use Rattle.ibezofanle.specs.Calls.{no-block, block-fits, IbzReset, OnBlock, on-block, step-refusal, run-refusal, undo-refusal, ibz-reset, ibz-step, ibz-run, ibz-undo}
 use Rattle.ibezofanle.specs.Refusals.{block-line, ibz-reset-table, ibz-step-table, ibz-run-table, ibz-undo-table}
-use Rattle.ibezofanle.proofs.BlockLaws.{block-of-slots-in}
+use Rattle.block.proofs.BlockLaws.{block-of-slots-in}
 
 -- ---- what is proved of a call's number c on block b, its table t, and the machine's table, the rest of t
 pub record IbzVerdict (b : List ℕ) (t rest : List Line) (c : ℕ) : Type 1 where
@@ -78,7 +78,8 @@ module _ (b : List ℕ) (t : List Line) (k : ℕ) (v : Verdict t k) (below : Bel
       }
 
   -- whatever the call gives, if its number is k where the block fits and 9 where it does not
-  pub ibz-verdict : {A : Type 0} (number : A → ℕ) (x y : A) → number x ≡ k → number y ≡ no-block → IbzVerdict b whole t (number (pick (block-fits b) x y))
+  pub ibz-verdict : {A : Type 0} (number : A → ℕ) (x y : A) → number x ≡ k → number y ≡ no-block
+      → IbzVerdict b whole t (number (pick (block-fits b) x y))
   ibz-verdict number x y p q = go (block-fits b) refl
     where
       go : (f : Bool) → block-fits b ≡ f → IbzVerdict b whole t (number (pick f x y))

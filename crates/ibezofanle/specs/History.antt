@@ -1,6 +1,6 @@
 -- History.antt - a mix of calls from C on one box, each given what the last one left; the steps that stand after it.
 -- Not here: what a call does (Calls.antt); Call, Request, and steps taken alone (History.antt of the crate machine).
--- Uses: bits, machine.  Laws: proofs/GoingBack.antt.  Source: [K1], [00 demand 3].
+-- Uses: bits, block, machine.  Laws: proofs/GoingBack.antt.  Source: [K1], [00 demand 3].
 use Prim.Native.Nat.{ℕ, _+_, _≤_}
 use mathlib.Core.List.{List, [], _∷_}
 use lib.Dec.{eqb}
@@ -9,7 +9,7 @@ use Rattle.machine.specs.declared.StepAnswer.{StepAnswer}
 use Rattle.machine.specs.declared.RunAnswer.{RunAnswer}
 use Rattle.machine.specs.declared.UndoAnswer.{UndoAnswer}
 use Rattle.machine.specs.History.{Machine, Request, Call, step-of, run-of, undo-once, all-but-last, plain-step, Seen}
-use Rattle.ibezofanle.specs.Block.{slots-in, block-of}
+use Rattle.block.specs.Block.{slots-in, block-of}
 use Rattle.ibezofanle.specs.Calls.{OnBlock, ibz-step, ibz-run, ibz-undo}
 
 -- what the host keeps between calls: block, memory, journal and mark  [K1]

@@ -1,4 +1,3 @@
-pub mod Block
 pub mod Calls
 pub mod Refusals
 pub mod Promises

@@ -6,7 +6,7 @@ use mathlib.Core.Path.{_≡_}
 use mathlib.Core.List.{List, _∷_}
 use lib.ListN.{length}
 use Rattle.machine.specs.Refusals.{Line, reset-table, step-table, run-table, undo-table}
-use Rattle.ibezofanle.specs.Block.{block-length, slots-in}
+use Rattle.block.specs.Block.{block-length, slots-in}
 use Rattle.ibezofanle.specs.Calls.{no-block}
 
 -- the block is not 80 bytes long  [K1]

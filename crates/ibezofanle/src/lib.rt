@@ -1,13 +1,11 @@
 // lib.rt - the calls from C: reset, step, run and undo, with the state in a lent block of 80 bytes. No call has a `requires`.
 // Means: specs/Calls.antt, specs/Promises.antt.  Laws: proofs/CallLaws.antt, and the theorems beside it.
-// Uses: machine.  Declared for C in c/ibezofanle.h.  Source: [K1].
+// Uses: block, machine.  Declared for C in c/ibezofanle.h.  Source: [K1].
 ghost use Rattle.ibezofanle.specs.Promises.{IbzResetPromise, IbzStepPromise, IbzRunPromise, IbzUndoPromise};
 use block::BLOCK_LENGTH;
 use machine::RunAnswer;
 use machine::StepAnswer;
 use machine::UndoAnswer;
-
-mod block;
 
 // The refusal of a block that is not 80 bytes long.
 const NO_BLOCK: u32 = 9;

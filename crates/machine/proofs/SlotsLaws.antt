@@ -44,7 +44,8 @@ twenty-of-running (suc k) n stop s m j mark h =
     (pick-cases TwentyRun (ltb (length j - mark) longest-record) h
     (pick-cases TwentyRun (eqb (pc-of s) stop) h rest)))
 
-twenty-of-run : (s m : List ℕ) (budget stop : ℕ) (j : List ℕ) (mark : ℕ) → length s ≡ slot-limit → length (run-call s m budget stop j mark .s) ≡ slot-limit
+twenty-of-run : (s m : List ℕ) (budget stop : ℕ) (j : List ℕ) (mark : ℕ) → length s ≡ slot-limit
+    → length (run-call s m budget stop j mark .s) ≡ slot-limit
 unfolding run-call
 twenty-of-run s m budget stop j mark h =
     pick-cases TwentyRun (eqb (run-number s m budget j mark) 0) (twenty-of-running budget 0 stop s m j mark h) h

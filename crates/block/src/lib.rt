@@ -1,11 +1,11 @@
-// block.rt - the lent block: twenty slots in order, four bytes each, high byte first.
+// lib.rt - the state as a block of bytes: twenty slots in order, four bytes each, high byte first; read and written.
 // Means: specs/Block.antt.  Laws: proofs/BlockLaws.antt.
-// Source: [K1].
+// Uses: record.  Source: [K1].
 ghost use mathlib.Core.Path.{_≡_};
 ghost use Prim.Native.Nat.{_+_, _*_, _<_};
 ghost use lib.ListN.{length};
 ghost use lib.Seq.{sets};
-ghost use Rattle.ibezofanle.specs.Block.{block-length, slot-of, slot-at, slot-bytes, slots-in, block-of};
+ghost use Rattle.block.specs.Block.{block-length, slot-of, slot-at, slot-bytes, slots-in, block-of};
 
 pub const BLOCK_LENGTH: usize = 80;
 

@@ -1,5 +1,5 @@
--- Block.antt - the lent block: twenty slots in order, four bytes each, high byte first.
--- Met by: src/block.rt.  Laws: proofs/BlockLaws.antt.
+-- Block.antt - the state as a block of bytes: twenty slots in order, four bytes each, high byte first.
+-- Met by: src/lib.rt.  Laws: proofs/BlockLaws.antt.
 -- Uses: record.  Source: [K1].
 use Prim.Native.Nat.{ℕ, zero, suc, _+_, _*_, _/_, _%_}
 use mathlib.Core.List.{List, [], _∷_, _++_}

@@ -12,13 +12,17 @@ use native.Mathlib.Omega.{arith}
 use lib.ListN.{length, getD, set, take, drop, replicate, length-append}
 use lib.Seq.{sets, sets-eq, take-at, length-take-le}
 use Rattle.record.specs.Limits.{Each, ValidBytes, slot-limit}
-use Rattle.ibezofanle.specs.Block.{block-length, slot-of, slot-bytes, slot-at, slots-from, slots-in, block-of}
+use Rattle.block.specs.Block.{block-length, slot-of, slot-bytes, slot-at, slots-from, slots-in, block-of}
 
 -- bytes, counted from i
 abbrev pub Bytes : ℕ → List ℕ → Type 0
 Bytes i b = Each (λ k v. v < 256) i b
 
 -- ---- four bytes at a time
+-- four places on
+abbrev on : ℕ → ℕ
+on i = suc (suc (suc (suc i)))
+
 pub data Four : List ℕ → Type 0 where
   four : (a b c d : ℕ) (l : List ℕ) → Four (a ∷ b ∷ c ∷ d ∷ l)
 
@@ -52,10 +56,10 @@ pub block-of-slots : (n i : ℕ) (b : List ℕ) → length b ≡ 4 * n → Bytes
 unfolding slots-from block-of
 block-of-slots zero i [] e h = refl
 block-of-slots zero i (x ∷ b) e h = absurd (omega arith)
-block-of-slots (suc n) i b e h = go b (as-four n b e) e h (block-of-slots n (suc (suc (suc (suc i)))))
+block-of-slots (suc n) i b e h = go b (as-four n b e) e h (block-of-slots n (on i))
   where
     go : (b : List ℕ) → Four b → length b ≡ 4 * suc n → Bytes i b
-        → ((l : List ℕ) → length l ≡ 4 * n → Bytes (suc (suc (suc (suc i)))) l → block-of (slots-from n l) ≡ l)
+        → ((l : List ℕ) → length l ≡ 4 * n → Bytes (on i) l → block-of (slots-from n l) ≡ l)
         → block-of (slots-from (suc n) b) ≡ b
     go _ (four a b c d l) e h rest =
         let v = slot-of a b c d in
@@ -78,10 +82,10 @@ block-of-slots-in b e h = block-of-slots slot-limit 0 b e h
 pub words-of-slots : (n i k : ℕ) (b : List ℕ) → length b ≡ 4 * n → Bytes i b → Each (λ k v. v < 2 ^ 32) k (slots-from n b)
 unfolding slots-from
 words-of-slots zero i k b e h = tt
-words-of-slots (suc n) i k b e h = go b (as-four n b e) e h (words-of-slots n (suc (suc (suc (suc i)))) (suc k))
+words-of-slots (suc n) i k b e h = go b (as-four n b e) e h (words-of-slots n (on i) (suc k))
   where
     go : (b : List ℕ) → Four b → length b ≡ 4 * suc n → Bytes i b
-        → ((l : List ℕ) → length l ≡ 4 * n → Bytes (suc (suc (suc (suc i)))) l → Each (λ k v. v < 2 ^ 32) (suc k) (slots-from n l))
+        → ((l : List ℕ) → length l ≡ 4 * n → Bytes (on i) l → Each (λ k v. v < 2 ^ 32) (suc k) (slots-from n l))
         → Each (λ k v. v < 2 ^ 32) k (slots-from (suc n) b)
     go _ (four a b c d l) e h rest = (omega (arith, h .0, h .1 .0, h .1 .1 .0, h .1 .1 .1 .0), rest l (omega arith) (h .1 .1 .1 .1))
 
@@ -90,22 +94,27 @@ abbrev pub filled : List ℕ → ℕ → List ℕ
 filled b zero = replicate slot-limit 0
 filled b (suc i) = set (filled b i) i (slot-at b (4 * i))
 
+-- slot-at, its places by suc
+abbrev slot-here : ℕ → List ℕ → ℕ
+slot-here at b = slot-of (getD b at 0) (getD b (suc at) 0) (getD b (suc (suc at)) 0) (getD b (suc (suc (suc at))) 0)
+
 -- the n slots from a place on
 abbrev slots-at : ℕ → ℕ → List ℕ → List ℕ
 slots-at zero at b = []
-slots-at (suc n) at b = slot-of (getD b at 0) (getD b (suc at) 0) (getD b (suc (suc at)) 0) (getD b (suc (suc (suc at))) 0) ∷ slots-at n (suc (suc (suc (suc at)))) b
+slots-at (suc n) at b = slot-here at b ∷ slots-at n (on at) b
 
-slots-on : (n at a b c d : ℕ) (l : List ℕ) → slots-at n (suc (suc (suc (suc at)))) (a ∷ b ∷ c ∷ d ∷ l) ≡ slots-at n at l
+slots-on : (n at a b c d : ℕ) (l : List ℕ) → slots-at n (on at) (a ∷ b ∷ c ∷ d ∷ l) ≡ slots-at n at l
 slots-on zero at a b c d l = refl
 slots-on (suc n) at a b c d l =
-    ap (λ (s : List ℕ). slot-of (getD l at 0) (getD l (suc at) 0) (getD l (suc (suc at)) 0) (getD l (suc (suc (suc at))) 0) ∷ s) (slots-on n (suc (suc (suc (suc at)))) a b c d l)
+    ap (λ (s : List ℕ). slot-here at l ∷ s) (slots-on n (on at) a b c d l)
 
 slots-from-start : (n : ℕ) (b : List ℕ) → length b ≡ 4 * n → slots-at n 0 b ≡ slots-from n b
 unfolding slots-from
 slots-from-start zero b e = refl
 slots-from-start (suc n) b e = go b (as-four n b e) e (slots-from-start n)
   where
-    go : (b : List ℕ) → Four b → length b ≡ 4 * suc n → ((l : List ℕ) → length l ≡ 4 * n → slots-at n 0 l ≡ slots-from n l) → slots-at (suc n) 0 b ≡ slots-from (suc n) b
+    go : (b : List ℕ) → Four b → length b ≡ 4 * suc n → ((l : List ℕ) → length l ≡ 4 * n → slots-at n 0 l ≡ slots-from n l)
+        → slots-at (suc n) 0 b ≡ slots-from (suc n) b
     go _ (four a b c d l) e rest = ap (λ (s : List ℕ). slot-of a b c d ∷ s) (slots-on n 0 a b c d l ∙ rest l (omega arith))
 
 pub read-whole : (b : List ℕ) → length b ≡ block-length → filled b slot-limit ≡ slots-in b
@@ -127,7 +136,8 @@ written-one b s i e h q =
     let before : 4 * i ≤ length b = omega (arith, e, h) in
     let up : 4 * i + 4 ≡ 4 * (i + 1) = omega arith in
     ap (take (4 * (i + 1))) (sets-eq v b (4 * i) inside)
-    ∙ take-at (take (4 * i) b ++ v) (drop (4 * i + 4) b) (4 * (i + 1)) (length-append (take (4 * i) b) v ∙ ap (λ (k : ℕ). k + 4) (length-take-le (4 * i) b before) ∙ up)
+    ∙ take-at (take (4 * i) b ++ v) (drop (4 * i + 4) b) (4 * (i + 1))
+    (length-append (take (4 * i) b) v ∙ ap (λ (k : ℕ). k + 4) (length-take-le (4 * i) b before) ∙ up)
     ∙ ap (λ (l : List ℕ). l ++ v) q
     ∙ sym (block-of-take s i h)
     ∙ ap (λ (k : ℕ). block-of (take k s)) (sym (add-one i))

@@ -5,10 +5,10 @@ use native.Mathlib.Nat.{le-antisymm, le-of-eq}
 use native.Mathlib.Omega.{arith}
 use lib.ListN.{length, take, getD}
 use lib.Seq.{length-sets, take-all, take-length}
-use Rattle.ibezofanle.specs.Block.{slot-bytes, block-of}
-use Rattle.ibezofanle.proofs.BlockLaws.{written-one}
-use Rattle.ibezofanle.proofs.block.put_slots.Statement.{statement}
-use Rattle.ibezofanle.proofs.block.put_slots.Tie as tie
+use Rattle.block.specs.Block.{slot-bytes, block-of}
+use Rattle.block.proofs.BlockLaws.{written-one}
+use Rattle.block.proofs.put_slots.Statement.{statement}
+use Rattle.block.proofs.put_slots.Tie as tie
 
 abbrev Inv-loop : tie.InvT-loop
 Inv-loop block₀ s i₀ block i = (i ≤ length s) × (take (4 * i) block ≡ block-of (take i s)) × (length block ≡ 4 * length s)

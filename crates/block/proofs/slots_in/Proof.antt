@@ -5,9 +5,9 @@ use native.Mathlib.Nat.{le-antisymm}
 use native.Mathlib.Numerals.{add-one}
 use native.Mathlib.Omega.{arith}
 use lib.ListN.{set}
-use Rattle.ibezofanle.proofs.BlockLaws.{filled, read-whole}
-use Rattle.ibezofanle.proofs.block.slots_in.Statement.{statement}
-use Rattle.ibezofanle.proofs.block.slots_in.Tie as tie
+use Rattle.block.proofs.BlockLaws.{filled, read-whole}
+use Rattle.block.proofs.slots_in.Statement.{statement}
+use Rattle.block.proofs.slots_in.Tie as tie
 
 abbrev Inv-loop : tie.InvT-loop
 Inv-loop block s₀ i₀ s i = (i ≤ 20) × (s ≡ filled block i)
@@ -24,14 +24,16 @@ loop-again c =
     let i = at-loop .loop .i in
     let b = at-loop .before .before .args .block .now in (
       omega arith,
-      subst (λ (k : ℕ). set (at-loop .loop .s) i (c .slot-at .result) ≡ filled b k) (sym (add-one i)) (λ j. set (at-loop .loop .inv .1 j) i (c .slot-at .ensures j)),
+      subst (λ (k : ℕ). set (at-loop .loop .s) i (c .slot-at .result) ≡ filled b k) (sym (add-one i))
+          (λ j. set (at-loop .loop .inv .1 j) i (c .slot-at .ensures j)),
     )
 
 returns : tie.Need-returns Inv-loop μ-loop
 returns c =
     let at-loop = c .before in
     let b = at-loop .before .before .args .block .now in
-    subst (λ (n : ℕ). at-loop .loop .s ≡ filled b n) (le-antisymm (at-loop .loop .inv .0) (c .loop-test .left)) (at-loop .loop .inv .1) ∙ read-whole b (at-loop .before .before .pre)
+    subst (λ (n : ℕ). at-loop .loop .s ≡ filled b n) (le-antisymm (at-loop .loop .inv .0) (c .loop-test .left)) (at-loop .loop .inv .1)
+    ∙ read-whole b (at-loop .before .before .pre)
 
 pub slots-in-spec : {M : Type 1} → statement M
 slots-in-spec =

@@ -5,8 +5,8 @@ use Prim.Native.Nat.{suc, _+_, _/_, _%_}
 use lib.ListN.{set}
 use lib.Seq.{lt-length-set}
 use borrow.Author.Needs.{needs}
-use Rattle.ibezofanle.proofs.block.put_slot.Statement.{statement}
-use Rattle.ibezofanle.proofs.block.put_slot.Tie as tie
+use Rattle.block.proofs.put_slot.Statement.{statement}
+use Rattle.block.proofs.put_slot.Tie as tie
 
 slice-write-block-2 : tie.Need-slice-write-block-2
 slice-write-block-2 c = lt-length-set (c .args .block .now) _ _ (omega arith)
@@ -16,11 +16,13 @@ slice-write-block-3 c = lt-length-set (set (c .args .block .now) _ _) _ _ (lt-le
 
 returns : tie.Need-returns
 returns c =
+    let b = c .args .block .now in
+    let v = c .args .v in
     let a = c .args .at in
     let e₁ : a + 1 ≡ suc a = omega arith in
     let e₂ : a + 2 ≡ suc (suc a) = omega arith in
     let e₃ : a + 3 ≡ suc (suc (suc a)) = omega arith in
-    λ j. set (set (set (set (c .args .block .now) a (c .args .v / 0x1000000)) (e₁ j) (c .args .v / 0x10000 % 0x100)) (e₂ j) (c .args .v / 0x100 % 0x100)) (e₃ j) (c .args .v % 0x100)
+    λ j. set (set (set (set b a (v / 0x1000000)) (e₁ j) (v / 0x10000 % 0x100)) (e₂ j) (v / 0x100 % 0x100)) (e₃ j) (v % 0x100)
 
 pub put-slot-spec : {M : Type 1} → statement M
 put-slot-spec =

@@ -1,0 +1,35 @@
+/* calls.c - calls from C, so many of one kind, for `calls` beside it to count: calls KIND COUNT < IMAGE
+ * Kinds: step and undo (a step and its undo) call by call; run, a run of COUNT steps; loop, none; nine and memory, a step that is
+ * refused by 9 and by 1. The journal has room for one call, or for all steps of a run; the mark is 0 before each. It tells PC. */
+#include "ibezofanle.h"
+#include <stdio.h>
+#include <stdlib.h>
+#include <string.h>
+
+enum { MEMORY = 65536 };
+
+static uint8_t block[IBZ_BLOCK_LENGTH], memory[MEMORY], journal[1 << 28];
+
+int main(int argc, char **argv) {
+  if (argc != 3 || fread(memory, 1, MEMORY, stdin) < 8) return 2;
+  const char *kind = argv[1];
+  const size_t block_length = strcmp(kind, "nine") == 0 ? 0 : sizeof block, length = strcmp(kind, "memory") == 0 ? 0 : MEMORY;
+  const int undo = strcmp(kind, "undo") == 0, run = strcmp(kind, "run") == 0, loop = strcmp(kind, "loop") == 0;
+  unsigned long left = strtoul(argv[2], NULL, 10);
+  volatile size_t mark = 0;
+  ibz_reset(block, sizeof block, memory, MEMORY);
+  while (run && left > 0) {
+    const uint32_t budget = left < IBZ_BUDGET_MOST ? (uint32_t)left : IBZ_BUDGET_MOST;
+    const struct ibz_run_answer a = ibz_run(block, sizeof block, memory, MEMORY, budget, 0xFFFFFFFFu, journal, sizeof journal, 0);
+    if (a.number != 0 || a.steps != budget) return 3;
+    left -= a.steps;
+  }
+  for (; left > 0; left--) {
+    mark = 0;
+    if (!loop) mark = ibz_step(block, block_length, memory, length, 0, 0, journal, 1024, mark).mark;
+    if (undo) mark = ibz_undo(block, sizeof block, memory, MEMORY, journal, 1024, mark).mark;
+    if (undo) mark = ibz_step(block, sizeof block, memory, MEMORY, 0, 0, journal, 1024, mark).mark;
+  }
+  printf("%08X\n", (unsigned)ibz_get(block, IBZ_PC));
+  return 0;
+}
