@@ -3,7 +3,7 @@
 #include "tests.h"
 #include <pthread.h>
 
-enum { THREADS = 4, TURNS = 200, MEMORY = 65536, JOURNAL = 65536 };
+enum { THREADS = 4, TURNS = 40, MEMORY = 65536, JOURNAL = 65536 };
 
 struct machine {
   unsigned turn;
