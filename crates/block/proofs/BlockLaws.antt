@@ -1,7 +1,8 @@
 -- BlockLaws.antt - slots to block and back; the loops that read and write a block.
 -- * slots-of-block: the slots in the block of any slots are these. block-of-slots: the block of the slots in any bytes is these bytes.
 -- * slots-in-block, block-of-slots-in: the same for twenty slots and for eighty bytes.
--- * length-of-slots, length-of-block, words-of-slots: lengths, and slots of 32 bits.
+-- * length-of-slots, length-of-block: their lengths. words-of-slots, bytes-of-block: slots of bytes have 32 bits, and the block of such is bytes.
+--   So the blocks of 80 bytes and the twenty slots of 32 bits stand for each other, one for one.
 -- * filled, read-whole, written-one: what the loops of slots_in and put_slots have done after a turn, and after the last.
 -- Source: [K1].
 use Prim.Native.Nat.{ℕ, zero, suc, _+_, _*_, _/_, _%_, _^_, _≤_, _<_}
@@ -78,7 +79,7 @@ slots-in-block s e = ap (λ (n : ℕ). slots-from n (block-of s)) (sym e) ∙ sl
 pub block-of-slots-in : (b : List ℕ) → length b ≡ block-length → ValidBytes b → block-of (slots-in b) ≡ b
 block-of-slots-in b e h = block-of-slots slot-limit 0 b e h
 
--- ---- slots of 32 bits
+-- ---- slots of 32 bits, and bytes
 pub words-of-slots : (n i k : ℕ) (b : List ℕ) → length b ≡ 4 * n → Bytes i b → Each (λ k v. v < 2 ^ 32) k (slots-from n b)
 unfolding slots-from
 words-of-slots zero i k b e h = tt
@@ -88,6 +89,11 @@ words-of-slots (suc n) i k b e h = go b (as-four n b e) e h (words-of-slots n (o
         → ((l : List ℕ) → length l ≡ 4 * n → Bytes (on i) l → Each (λ k v. v < 2 ^ 32) (suc k) (slots-from n l))
         → Each (λ k v. v < 2 ^ 32) k (slots-from (suc n) b)
     go _ (four a b c d l) e h rest = (omega (arith, h .0, h .1 .0, h .1 .1 .0, h .1 .1 .1 .0), rest l (omega arith) (h .1 .1 .1 .1))
+
+pub bytes-of-block : (i k : ℕ) (s : List ℕ) → Each (λ k v. v < 2 ^ 32) k s → Bytes i (block-of s)
+unfolding block-of
+bytes-of-block i k [] h = tt
+bytes-of-block i k (v ∷ s) h = (omega (arith, h .0), (omega arith, (omega arith, (omega arith, bytes-of-block (on i) (suc k) s (h .1)))))
 
 -- ---- slots_in: the array after i turns
 abbrev pub filled : List ℕ → ℕ → List ℕ
