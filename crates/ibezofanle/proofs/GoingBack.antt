@@ -1,30 +1,31 @@
 -- GoingBack.antt - demand 3 for a C program. What the program sees, clause by clause:
 --   block, memory, journal and mark, kept between calls           x : Box, with Lends x: a block of 80 bytes, bytes in block and memory
 --   any calls of ibz_step, ibz_run and ibz_undo in any order,
---     each given what the last one left and returned              cs : List Call, and ibz-after cs x
---   never more steps undone than accepted, by the answers         IbzNeverAhead cs x 0 0
---   the bytes of block and memory, and the mark, end exactly as   ibz-seen (ibz-after cs x) ≡
---   the steps not undone, with their requests                     ibz-standing cs x [], the last first
+--     each given what the last one left and returned              cs : List Call, and after ibz-calls cs x
+--   never more steps undone than accepted, by the answers         NeverAhead ibz-calls cs x 0 0
+--   the bytes of block and memory, and the mark, end exactly as   ibz-seen (after ibz-calls cs x) ≡
+--   the steps not undone, with their requests                     standing ibz-calls cs x [], the last first
 --   taken alone from the start by the definition of a step        in-block (taken-alone .. (seen (machine-in x)))
 -- * carried: any list of calls from C on a block is the list of the machine's calls on the slots that it holds.
 -- * ibz-going-back: the theorem. ibz-all-undone: where no step stands, block, memory and mark are those of the start, byte for byte.
 -- * ibz-undo-when-standing: where a step stands, an undo is accepted and takes exactly the last one away.
 -- Source: [K1], [00 demand 3].
-use Prim.Native.Nat.{ℕ, _+_, _*_}
-use mathlib.Core.Path.{_≡_, refl, sym, ap, subst, _∙_}
+use Prim.Native.Nat.{ℕ, _*_}
+use mathlib.Core.Path.{_≡_, refl, sym, ap, _∙_}
 use mathlib.Core.List.{List, [], _∷_}
 use lib.ListN.{length}
-use lib.Dec.{eqb}
-use Rattle.bits.specs.Bits.{pick, iter}
 use Rattle.record.specs.Limits.{slot-limit, ValidBytes}
-use Rattle.machine.specs.History.{Machine, Request, Call, step-of, run-of, undo-once, stepping, running-on, undoing, act, after, accepted, undone, NeverAhead, all-but-last, plain-step, left-by, standing, Seen, seen, taken-alone}
+use Rattle.machine.specs.History.{Machine, Request, Call, step-of, run-of, undo-once, stepping, running-on, undoing, act, number-told, steps-told}
+use Rattle.machine.specs.History.{machine-calls, after, NeverAhead, standing, Seen, seen, taken-alone}
 use Rattle.machine.proofs.ValidLaws.{Lent}
 use Rattle.machine.proofs.SlotsLaws.{twenty-of-act}
+use Rattle.machine.proofs.HistoryLaws.{Carries, good-along, after-carried, standing-carried, ahead-carried}
 use Rattle.machine.proofs.GoingBack.{going-back, undo-when-standing}
 use Rattle.block.specs.Block.{block-length, slots-in, block-of}
-use Rattle.ibezofanle.specs.Calls.{OnBlock, step-refusal, run-refusal, undo-refusal, ibz-step, ibz-run, ibz-undo}
-use Rattle.ibezofanle.specs.History.{Box, ibz-stepping, ibz-running, ibz-undoing, ibz-act, ibz-after, ibz-accepted, ibz-undone, IbzNeverAhead, ibz-left-by, ibz-standing, BoxSeen, ibz-seen, machine-in, in-block}
 use Rattle.block.proofs.BlockLaws.{length-of-slots, length-of-block, words-of-slots, slots-in-block, block-of-slots-in}
+use Rattle.ibezofanle.specs.Calls.{OnBlock, step-refusal, run-refusal, undo-refusal, ibz-step, ibz-run, ibz-undo}
+use Rattle.ibezofanle.specs.History.{Box, ibz-stepping, ibz-running, ibz-undoing, ibz-act, ibz-number, ibz-steps, ibz-calls}
+use Rattle.ibezofanle.specs.History.{BoxSeen, ibz-seen, machine-in, in-block}
 use Rattle.ibezofanle.proofs.CallLaws.{on-block-held}
 
 -- the box of a machine: the block that holds its slots
@@ -55,31 +56,22 @@ module _ (x : Box) (e : length (x .block) ≡ block-length) where
   unfolding ibz-undo
   ibz-undoing-held = on-block-held (x .block) (x .memory) (x .journal) (undo-refusal (x .mark)) _ _ _ _ e
 
-  -- so the box after it is that of the machine after the machine's call, and as many steps are accepted, undone and left
+  -- so the box after it is that of the machine after the machine's call, and the answers tell the same
   ibz-act-held : (c : Call) → ibz-act c x ≡ box-of (act c (machine-in x))
   unfolding act ibz-act
   ibz-act-held (step-of level vector) = ap (kept (λ a. a .mark)) (ibz-stepping-held level vector)
   ibz-act-held (run-of budget stop) = ap (kept (λ a. a .mark)) (ibz-running-held budget stop)
   ibz-act-held undo-once = ap (kept (λ a. a .mark)) ibz-undoing-held
 
-  accepted-held : (c : Call) → ibz-accepted c x ≡ accepted c (machine-in x)
-  unfolding accepted ibz-accepted
-  accepted-held (step-of level vector) = ap (λ c. pick (eqb (c .a .number) 0) 1 0) (ibz-stepping-held level vector)
-  accepted-held (run-of budget stop) = ap (λ c. c .a .steps) (ibz-running-held budget stop)
-  accepted-held undo-once = refl
+  number-held : (c : Call) → ibz-number c x ≡ number-told c (machine-in x)
+  number-held (step-of level vector) = ap (λ c. c .a .number) (ibz-stepping-held level vector)
+  number-held (run-of budget stop) = ap (λ c. c .a .number) (ibz-running-held budget stop)
+  number-held undo-once = ap (λ c. c .a .number) ibz-undoing-held
 
-  undone-held : (c : Call) → ibz-undone c x ≡ undone c (machine-in x)
-  unfolding undone ibz-undone
-  undone-held (step-of level vector) = refl
-  undone-held (run-of budget stop) = refl
-  undone-held undo-once = ap (λ c. pick (eqb (c .a .number) 0) 1 0) ibz-undoing-held
-
-  left-by-held : (c : Call) (rs : List Request) → ibz-left-by c x rs ≡ left-by c (machine-in x) rs
-  unfolding left-by ibz-left-by
-  left-by-held (step-of level vector) rs =
-      ap (λ c. pick (eqb (c .a .number) 0) (record { level = level; vector = vector } ∷ rs) rs) (ibz-stepping-held level vector)
-  left-by-held (run-of budget stop) rs = ap (λ c. iter plain-step (c .a .steps) rs) (ibz-running-held budget stop)
-  left-by-held undo-once rs = ap (λ c. pick (eqb (c .a .number) 0) (all-but-last rs) rs) ibz-undoing-held
+  steps-held : (c : Call) → ibz-steps c x ≡ steps-told c (machine-in x)
+  steps-held (step-of level vector) = refl
+  steps-held (run-of budget stop) = ap (λ c. c .a .steps) (ibz-running-held budget stop)
+  steps-held undo-once = refl
 
   twenty-after : (c : Call) → length (act c (machine-in x) .slots) ≡ slot-limit
   twenty-after c = twenty-of-act c (machine-in x) (length-of-slots slot-limit (x .block))
@@ -103,34 +95,28 @@ module _ (x : Box) (e : length (x .block) ≡ block-length) where
       ap (λ (b : List ℕ). block-of (slots-in b)) q ∙ ap block-of (slots-in-block s (twenty-after c)) ∙ sym q
 
 -- ---- any list of calls on a block of 80 bytes
-pub carried : (cs : List Call) (x : Box) → length (x .block) ≡ block-length → machine-in (ibz-after cs x) ≡ after cs (machine-in x)
-carried [] x e = refl
-carried (c ∷ cs) x e = carried cs (ibz-act c x) (fits-after x e c) ∙ ap (after cs) (carried-one x e c)
+abbrev Fits : Box → Type 0
+Fits x = length (x .block) ≡ block-length
 
--- the steps that stand, and that they are never ahead, are the machine's
-standing-carried : (cs : List Call) (x : Box) → length (x .block) ≡ block-length
-    → (rs : List Request) → ibz-standing cs x rs ≡ standing cs (machine-in x) rs
-standing-carried [] x e rs = refl
-standing-carried (c ∷ cs) x e rs =
-    standing-carried cs (ibz-act c x) (fits-after x e c) (ibz-left-by c x rs)
-    ∙ (λ i. standing cs (carried-one x e c i) (left-by-held x e c rs i))
+held-as-machine : Carries ibz-calls machine-calls machine-in Fits
+held-as-machine =
+    record {
+      good = λ c x e. fits-after x e c;
+      next = λ c x e. carried-one x e c;
+      number = λ c x e. number-held x e c;
+      steps = λ c x e. steps-held x e c;
+    }
 
-ahead-carried : (cs : List Call) (x : Box) → length (x .block) ≡ block-length → (n u : ℕ) → IbzNeverAhead cs x n u → NeverAhead cs (machine-in x) n u
-ahead-carried [] x e n u h = h
-ahead-carried (c ∷ cs) x e n u h = (
-  h .0,
-  subst (λ (y : Machine). NeverAhead cs y (n + accepted c (machine-in x)) (u + undone c (machine-in x))) (carried-one x e c)
-      (subst (λ (k : ℕ). NeverAhead cs (machine-in (ibz-act c x)) (n + accepted c (machine-in x)) (u + k)) (undone-held x e c)
-      (subst (λ (k : ℕ). NeverAhead cs (machine-in (ibz-act c x)) (n + k) (u + ibz-undone c x)) (accepted-held x e c)
-      (ahead-carried cs (ibz-act c x) (fits-after x e c) (n + ibz-accepted c x) (u + ibz-undone c x) (h .1)))),
-)
+pub carried : (cs : List Call) (x : Box) → length (x .block) ≡ block-length
+    → machine-in (after ibz-calls cs x) ≡ after machine-calls cs (machine-in x)
+carried = after-carried ibz-calls machine-calls machine-in Fits held-as-machine
 
-fits-along : (cs : List Call) (x : Box) → length (x .block) ≡ block-length → length (ibz-after cs x .block) ≡ block-length
-fits-along [] x e = e
-fits-along (c ∷ cs) x e = fits-along cs (ibz-act c x) (fits-after x e c)
+same-standing : (cs : List Call) (x : Box) → length (x .block) ≡ block-length
+    → standing ibz-calls cs x [] ≡ standing machine-calls cs (machine-in x) []
+same-standing cs x e = standing-carried ibz-calls machine-calls machine-in Fits held-as-machine cs x [] e
 
 settled-along : (cs : List Call) (x : Box) → length (x .block) ≡ block-length → block-of (slots-in (x .block)) ≡ x .block
-    → block-of (slots-in (ibz-after cs x .block)) ≡ ibz-after cs x .block
+    → block-of (slots-in (after ibz-calls cs x .block)) ≡ after ibz-calls cs x .block
 settled-along [] x e q = q
 settled-along (c ∷ cs) x e q = settled-along cs (ibz-act c x) (fits-after x e c) (settled-after x e c)
 
@@ -157,31 +143,31 @@ module _ (x : Box) (l : Lends x) where
   seen-in-block : (z : Box) → block-of (slots-in (z .block)) ≡ z .block → ibz-seen z ≡ in-block (seen (machine-in z))
   seen-in-block z q = ap {B = BoxSeen} (λ (b : List ℕ). record { block = b; memory = z .memory; mark = z .mark }) (sym q)
 
-  module _ (cs : List Call) (h : IbzNeverAhead cs x 0 0) where
-    ahead : NeverAhead cs (machine-in x) 0 0
-    ahead = ahead-carried cs x (l .fits) 0 0 h
+  module _ (cs : List Call) (h : NeverAhead ibz-calls cs x 0 0) where
+    ahead : NeverAhead machine-calls cs (machine-in x) 0 0
+    ahead = ahead-carried ibz-calls machine-calls machine-in Fits held-as-machine cs x 0 0 (l .fits) h
 
-    pub ibz-going-back : ibz-seen (ibz-after cs x) ≡ in-block (taken-alone (ibz-standing cs x []) (seen (machine-in x)))
+    pub ibz-going-back : ibz-seen (after ibz-calls cs x) ≡ in-block (taken-alone (standing ibz-calls cs x []) (seen (machine-in x)))
     ibz-going-back =
-        seen-in-block (ibz-after cs x) (settled-along cs x (l .fits) settled-start)
+        seen-in-block (after ibz-calls cs x) (settled-along cs x (l .fits) settled-start)
         ∙ ap in-block (ap seen (carried cs x (l .fits)) ∙ going-back (machine-in x) lent-in cs ahead)
-        ∙ ap (λ (rs : List Request). in-block (taken-alone rs (seen (machine-in x)))) (sym (standing-carried cs x (l .fits) []))
+        ∙ ap (λ (rs : List Request). in-block (taken-alone rs (seen (machine-in x)))) (sym (same-standing cs x (l .fits)))
 
     -- try it, take all back, and the bytes are those of the start
-    pub ibz-all-undone : ibz-standing cs x [] ≡ [] → ibz-seen (ibz-after cs x) ≡ ibz-seen x
+    pub ibz-all-undone : standing ibz-calls cs x [] ≡ [] → ibz-seen (after ibz-calls cs x) ≡ ibz-seen x
     ibz-all-undone none =
         ibz-going-back
         ∙ ap (λ (rs : List Request). in-block (taken-alone rs (seen (machine-in x)))) none
         ∙ sym (seen-in-block x settled-start)
 
-    pub ibz-undo-when-standing : (r : Request) (rs : List Request) → ibz-standing cs x [] ≡ r ∷ rs
-        → (ibz-undoing (ibz-after cs x) .a .number ≡ 0)
-        × (ibz-seen (ibz-act undo-once (ibz-after cs x)) ≡ in-block (taken-alone rs (seen (machine-in x))))
+    pub ibz-undo-when-standing : (r : Request) (rs : List Request) → standing ibz-calls cs x [] ≡ r ∷ rs
+        → (ibz-undoing (after ibz-calls cs x) .a .number ≡ 0)
+        × (ibz-seen (ibz-act undo-once (after ibz-calls cs x)) ≡ in-block (taken-alone rs (seen (machine-in x))))
     ibz-undo-when-standing r rs e =
-        let z = ibz-after cs x in
-        let fits = fits-along cs x (l .fits) in
+        let z = after ibz-calls cs x in
+        let fits = good-along ibz-calls machine-calls machine-in Fits held-as-machine cs x (l .fits) in
         let same = carried cs x (l .fits) in
-        let u = undo-when-standing (machine-in x) lent-in cs ahead r rs (sym (standing-carried cs x (l .fits) []) ∙ e) in (
+        let u = undo-when-standing (machine-in x) lent-in cs ahead r rs (sym (same-standing cs x (l .fits)) ∙ e) in (
           ap (λ c. c .a .number) (ibz-undoing-held z fits) ∙ ap (λ (y : Machine). undoing y .a .number) same ∙ u .0,
           seen-in-block (ibz-act undo-once z) (settled-after z fits undo-once)
               ∙ ap in-block (ap seen (carried-one z fits undo-once ∙ ap (act undo-once) same) ∙ u .1),

@@ -22,9 +22,11 @@ use Rattle.machine.specs.declared.RunAnswer.{RunAnswer}
 use Rattle.machine.specs.declared.UndoAnswer.{UndoAnswer}
 use Rattle.machine.specs.Calls.{StepCall, RunCall, UndoCall, refused-slots, reset-number, reset-call, step-call, run-call, undo-call}
 use Rattle.machine.specs.Refusals.{Line, Given, zero-at-end, this, later, NoneApplies, reset-table, step-table, run-table, undo-table}
-use Rattle.machine.proofs.RefusalLaws.{Lowest, Verdict, given-unique, reset-verdict, step-verdict, run-verdict, undo-verdict, reset-refused, step-refused, run-refused, undo-refused}
+use Rattle.machine.proofs.RefusalLaws.{Lowest, Verdict, given-unique, reset-verdict, step-verdict, run-verdict, undo-verdict}
+use Rattle.machine.proofs.RefusalLaws.{reset-refused, step-refused, run-refused, undo-refused}
 use Rattle.block.specs.Block.{block-length, slots-in, block-of}
-use Rattle.ibezofanle.specs.Calls.{no-block, block-fits, IbzReset, OnBlock, on-block, step-refusal, run-refusal, undo-refusal, ibz-reset, ibz-step, ibz-run, ibz-undo}
+use Rattle.ibezofanle.specs.Calls.{no-block, block-fits, IbzReset, OnBlock, on-block, step-refusal, run-refusal, undo-refusal}
+use Rattle.ibezofanle.specs.Calls.{ibz-reset, ibz-step, ibz-run, ibz-undo}
 use Rattle.ibezofanle.specs.Refusals.{block-line, ibz-reset-table, ibz-step-table, ibz-run-table, ibz-undo-table}
 use Rattle.block.proofs.BlockLaws.{block-of-slots-in}
 

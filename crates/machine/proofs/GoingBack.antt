@@ -1,11 +1,11 @@
 -- GoingBack.antt - demand 3, as one theorem: `going-back`. Clause by clause:
 --   "Take any valid state, any journal mark"                       any Machine x with Lent slots and memory: twenty words and bytes, valid or not
---   "any mix of steps and undos, each call given what the last"    cs : List Call, and after cs x (act of each call on what the last returned)
---   "at no point more steps have been undone than accepted"        NeverAhead cs x 0 0
+--   "any mix of steps and undos, each call given what the last"    cs : List Call, and after machine-calls cs x (act on what the last returned)
+--   "at no point more steps have been undone than accepted"        NeverAhead machine-calls cs x 0 0
 --   "A run counts as its steps"                                    accepted and left-by at run-of; run-as-steps says that it is those steps
 --   "lent the same memory, journal .., and nobody else changes"    act hands on the journal and the memory that the call left, and nothing else
---   "state, memory and mark end exactly as"                        seen (after cs x) ≡
---   "the steps not undone, with their requests"                    standing cs x [], the last first
+--   "state, memory and mark end exactly as"                        seen (after machine-calls cs x) ≡
+--   "the steps not undone, with their requests"                    standing machine-calls cs x [], the last first
 --   "taken alone from the start by the definition in 2"            taken-alone .. (seen x), by one-step and the length of its record
 --   "Refused calls in between count for nothing"                   accepted, undone and left-by at a number that is not 0
 -- * undo-when-standing: where a step stands, an undo is accepted and takes exactly the last one away.
@@ -26,7 +26,7 @@ use Rattle.undo.specs.Undo.{undo-of}
 use Rattle.undo.specs.declared.Answer.the-variants.{Done}
 use Rattle.undo.proofs.UndoLaws.{undo-of-record, undo-by-back, back-below}
 use Rattle.machine.specs.Calls.{RunCall, UndoCall}
-use Rattle.machine.specs.History.{Machine, Request, Call, step-of, run-of, undo-once, stepping, running-on, undoing, act, after, accepted, undone, NeverAhead, plain-step, left-by, standing, Seen, seen, record-after, one-more, taken-alone}
+use Rattle.machine.specs.History.{Machine, Request, Call, step-of, run-of, undo-once, stepping, running-on, undoing, act, machine-calls, after, accepted, undone, NeverAhead, plain-step, left-by, standing, Seen, seen, record-after, one-more, taken-alone}
 use Rattle.machine.proofs.ValidLaws.{Lent, Valid, kept-by, state-fits-when, small-enough}
 use Rattle.machine.proofs.RefusalLaws.{run-refused, undo-accepted, undo-number-when}
 use Rattle.machine.proofs.ActLaws.{machine-at, act-step, act-step-refused, act-run-refused, act-undo-refused, step-valid, step-room, valid-after, lent-after, record-after-some}
@@ -166,9 +166,9 @@ module _ (x₀ : Machine) (lent : Lent (x₀ .slots) (x₀ .memory)) where
   length-plain (suc n) rs = length-plain n (plain ∷ rs) ∙ omega arith
 
   abbrev Counted : Call → Machine → List Request → ℕ → ℕ → Type 0
-  Counted c x rs n u = At (act c x) (left-by c x rs) × (n + accepted c x ≡ u + undone c x + length (left-by c x rs))
+  Counted c x rs n u = At (act c x) (left-by machine-calls c x rs) × (n + accepted machine-calls c x ≡ u + undone machine-calls c x + length (left-by machine-calls c x rs))
 
-  call-at : (c : Call) (x : Machine) (rs : List Request) (n u : ℕ) → At x rs → n ≡ u + length rs → u + undone c x ≤ n + accepted c x → Counted c x rs n u
+  call-at : (c : Call) (x : Machine) (rs : List Request) (n u : ℕ) → At x rs → n ≡ u + length rs → u + undone machine-calls c x ≤ n + accepted machine-calls c x → Counted c x rs n u
   unfolding accepted undone left-by iter
   call-at (step-of level vector) x rs n u a e h = go (eqb (stepping level vector x .a .number) 0) refl
     where
@@ -191,27 +191,27 @@ module _ (x₀ : Machine) (lent : Lent (x₀ .slots) (x₀ .memory)) where
       go false q rs a e = rw (q, act-undo-refused x (eqb-false (undoing x .a .number) 0 q)) (a, omega arith)
 
   -- ---- all of a history
-  first-point : (cs : List Call) (x : Machine) (n u : ℕ) → NeverAhead cs x n u → u ≤ n
+  first-point : (cs : List Call) (x : Machine) (n u : ℕ) → NeverAhead machine-calls cs x n u → u ≤ n
   first-point [] x n u h = h
   first-point (c ∷ cs) x n u h = h .0
 
-  history-at : (cs : List Call) (x : Machine) (rs : List Request) (n u : ℕ) → At x rs → n ≡ u + length rs → NeverAhead cs x n u → At (after cs x) (standing cs x rs)
+  history-at : (cs : List Call) (x : Machine) (rs : List Request) (n u : ℕ) → At x rs → n ≡ u + length rs → NeverAhead machine-calls cs x n u → At (after machine-calls cs x) (standing machine-calls cs x rs)
   history-at [] x rs n u a e h = a
   history-at (c ∷ cs) x rs n u a e h =
-      let next = call-at c x rs n u a e (first-point cs (act c x) (n + accepted c x) (u + undone c x) (h .1)) in
-      history-at cs (act c x) (left-by c x rs) (n + accepted c x) (u + undone c x) (next .0) (next .1) (h .1)
+      let next = call-at c x rs n u a e (first-point cs (act c x) (n + accepted machine-calls c x) (u + undone machine-calls c x) (h .1)) in
+      history-at cs (act c x) (left-by machine-calls c x rs) (n + accepted machine-calls c x) (u + undone machine-calls c x) (next .0) (next .1) (h .1)
 
-  at-end : (cs : List Call) → NeverAhead cs x₀ 0 0 → At (after cs x₀) (standing cs x₀ [])
+  at-end : (cs : List Call) → NeverAhead machine-calls cs x₀ 0 0 → At (after machine-calls cs x₀) (standing machine-calls cs x₀ [])
   at-end cs h = history-at cs x₀ [] 0 0 (record { journal = x₀ .journal; is = refl; holds = tt }) (omega arith) h
 
 -- ---- demand 3
-pub going-back : (x : Machine) → Lent (x .slots) (x .memory) → (cs : List Call) → NeverAhead cs x 0 0 → seen (after cs x) ≡ taken-alone (standing cs x []) (seen x)
+pub going-back : (x : Machine) → Lent (x .slots) (x .memory) → (cs : List Call) → NeverAhead machine-calls cs x 0 0 → seen (after machine-calls cs x) ≡ taken-alone (standing machine-calls cs x []) (seen x)
 going-back x lent cs h = ap seen (at-end x lent cs h .is)
 
 -- where a step stands, an undo is accepted, and state, memory and mark are those of the steps before it
-pub undo-when-standing : (x : Machine) → Lent (x .slots) (x .memory) → (cs : List Call) → NeverAhead cs x 0 0
-    → (r : Request) (rs : List Request) → standing cs x [] ≡ r ∷ rs
-    → (undoing (after cs x) .a .number ≡ 0) × (seen (act undo-once (after cs x)) ≡ taken-alone rs (seen x))
+pub undo-when-standing : (x : Machine) → Lent (x .slots) (x .memory) → (cs : List Call) → NeverAhead machine-calls cs x 0 0
+    → (r : Request) (rs : List Request) → standing machine-calls cs x [] ≡ r ∷ rs
+    → (undoing (after machine-calls cs x) .a .number ≡ 0) × (seen (act undo-once (after machine-calls cs x)) ≡ taken-alone rs (seen x))
 undo-when-standing x lent cs h r rs e =
-    let a : At x lent (after cs x) (r ∷ rs) = rw e at (at-end x lent cs h) in
-    (ap (λ (c : UndoCall). c .a .number) (undoing-at x lent (after cs x) r rs a), ap seen (undo-at x lent (after cs x) r rs a .is))
+    let a : At x lent (after machine-calls cs x) (r ∷ rs) = rw e at (at-end x lent cs h) in
+    (ap (λ (c : UndoCall). c .a .number) (undoing-at x lent (after machine-calls cs x) r rs a), ap seen (undo-at x lent (after machine-calls cs x) r rs a .is))

@@ -7,5 +7,6 @@ pub mod ActLaws
 pub mod FrameLaws
 pub mod RunLaws
 pub mod GoingBack
+pub mod HistoryLaws
 pub mod CallLaws
 pub mod LoopLaws

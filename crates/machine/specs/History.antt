@@ -52,31 +52,28 @@ act undo-once x =
     let c = undoing x in
     record { slots = c .s; memory = c .m; journal = x .journal; mark = c .a .mark }
 
--- after all of the calls, each given what the last one returned  [00 demand 3]
-abbrev pub after : List Call → Machine → Machine
-after [] x = x
-after (c ∷ cs) x = after cs (act c x)
+-- the number of a call's answer, and the steps that a run tells  [01 Calls]
+abbrev pub number-told : Call → Machine → ℕ
+number-told (step-of level vector) x = stepping level vector x .a .number
+number-told (run-of budget stop) x = running-on budget stop x .a .number
+number-told undo-once x = undoing x .a .number
 
--- ---- what was accepted, and what was undone
+abbrev pub steps-told : Call → Machine → ℕ
+steps-told (step-of level vector) x = 0
+steps-told (run-of budget stop) x = running-on budget stop x .a .steps
+steps-told undo-once x = 0
 
--- the steps that a call accepts: a run counts as its steps; a refused call counts for nothing  [00 demand 3]
-unfoldable pub accepted : Call → Machine → ℕ
-accepted (step-of level vector) x = pick (eqb (stepping level vector x .a .number) 0) 1 0
-accepted (run-of budget stop) x = running-on budget stop x .a .steps
-accepted undo-once x = 0
+-- ---- a mix of calls, on whatever is kept between them
 
--- the steps that a call undoes  [00 demand 3]
-unfoldable pub undone : Call → Machine → ℕ
-undone (step-of level vector) x = 0
-undone (run-of budget stop) x = 0
-undone undo-once x = pick (eqb (undoing x .a .number) 0) 1 0
+-- calls on an X: what the next call is given, and the number and the steps that an answer tells  [00 demand 3]
+pub record Calls (X : Type 0) : Type 0 where
+  pub next : Call → X → X
+  pub number : Call → X → ℕ
+  pub steps : Call → X → ℕ
 
--- at no point more steps undone than accepted; a and u are those before  [00 demand 3]
-abbrev pub NeverAhead : List Call → Machine → ℕ → ℕ → Type 0
-NeverAhead [] x a u = u ≤ a
-NeverAhead (c ∷ cs) x a u = (u ≤ a) × NeverAhead cs (act c x) (a + accepted c x) (u + undone c x)
-
--- ---- the steps not undone, with their requests, the last first
+-- the calls of this crate; those from C are another such record  [01 Calls]
+abbrev pub machine-calls : Calls Machine
+machine-calls = record { next = act; number = number-told; steps = steps-told }
 
 -- all but the last step  [00 demand 3]
 abbrev pub all-but-last : List Request → List Request
@@ -87,16 +84,39 @@ all-but-last (r ∷ rs) = rs
 abbrev pub plain-step : List Request → List Request
 plain-step rs = record { level = 0; vector = 0 } ∷ rs
 
--- the steps that stand after one call, where rs stood before it  [00 demand 3]
-unfoldable pub left-by : Call → Machine → List Request → List Request
-left-by (step-of level vector) x rs = pick (eqb (stepping level vector x .a .number) 0) (record { level = level; vector = vector } ∷ rs) rs
-left-by (run-of budget stop) x rs = iter plain-step (running-on budget stop x .a .steps) rs
-left-by undo-once x rs = pick (eqb (undoing x .a .number) 0) (all-but-last rs) rs
+module _ {X : Type 0} (k : Calls X) where
+  -- after all of the calls, each given what the last one returned  [00 demand 3]
+  abbrev pub after : List Call → X → X
+  after [] x = x
+  after (c ∷ cs) x = after cs (k .next c x)
 
--- the steps that stand after all of the calls, where rs stood before them  [00 demand 3]
-abbrev pub standing : List Call → Machine → List Request → List Request
-standing [] x rs = rs
-standing (c ∷ cs) x rs = standing cs (act c x) (left-by c x rs)
+  -- the steps that a call accepts: a run counts as its steps; a refused call counts for nothing  [00 demand 3]
+  unfoldable pub accepted : Call → X → ℕ
+  accepted (step-of level vector) x = pick (eqb (k .number (step-of level vector) x) 0) 1 0
+  accepted (run-of budget stop) x = k .steps (run-of budget stop) x
+  accepted undo-once x = 0
+
+  -- the steps that a call undoes  [00 demand 3]
+  unfoldable pub undone : Call → X → ℕ
+  undone (step-of level vector) x = 0
+  undone (run-of budget stop) x = 0
+  undone undo-once x = pick (eqb (k .number undo-once x) 0) 1 0
+
+  -- at no point more steps undone than accepted; a and u are those before  [00 demand 3]
+  abbrev pub NeverAhead : List Call → X → ℕ → ℕ → Type 0
+  NeverAhead [] x a u = u ≤ a
+  NeverAhead (c ∷ cs) x a u = (u ≤ a) × NeverAhead cs (k .next c x) (a + accepted c x) (u + undone c x)
+
+  -- the steps that stand after one call, with their requests, the last first, where rs stood before it  [00 demand 3]
+  unfoldable pub left-by : Call → X → List Request → List Request
+  left-by (step-of level vector) x rs = pick (eqb (k .number (step-of level vector) x) 0) (record { level = level; vector = vector } ∷ rs) rs
+  left-by (run-of budget stop) x rs = iter plain-step (k .steps (run-of budget stop) x) rs
+  left-by undo-once x rs = pick (eqb (k .number undo-once x) 0) (all-but-last rs) rs
+
+  -- the steps that stand after all of the calls, where rs stood before them  [00 demand 3]
+  abbrev pub standing : List Call → X → List Request → List Request
+  standing [] x rs = rs
+  standing (c ∷ cs) x rs = standing cs (k .next c x) (left-by c x rs)
 
 -- ---- steps taken alone: by one-step and the length of its record only
 
