@@ -49,7 +49,8 @@ static void show_registers(void) {
   for (unsigned i = 0; i < 8; i++) printf("D%u %08X%s", i, (unsigned)ibz_get(block, IBZ_D0 + i), i % 4 == 3 ? "\n" : "  ");
   for (unsigned i = 0; i < 7; i++) printf("A%u %08X%s", i, (unsigned)ibz_get(block, IBZ_A0 + i), i % 4 == 3 ? "\n" : "  ");
   printf("A7 %08X\n", (unsigned)ibz_get_a7(block));
-  printf("PC %08X  USP %08X  SSP %08X\n", (unsigned)ibz_get(block, IBZ_PC), (unsigned)ibz_get(block, IBZ_USP), (unsigned)ibz_get(block, IBZ_SSP));
+  printf("PC %08X  ", (unsigned)ibz_get(block, IBZ_PC));
+  printf("USP %08X  SSP %08X\n", (unsigned)ibz_get(block, IBZ_USP), (unsigned)ibz_get(block, IBZ_SSP));
   show_status();
   printf("\n%lu steps can be taken back; %zu of %zu journal bytes used\n", standing, mark, journal_length);
 }

@@ -85,7 +85,8 @@ static void orders(void) {
     }
     if ((set & ~0x27Eu) == 0) { /* step: 9, 1 to 6; a mark beyond the journal leaves less than 536 too */
       const size_t length = set >> 5 & 1u ? 600 : JOURNAL, mark = set >> 4 & 1u ? length + 1 : set >> 5 & 1u ? 65 : 64;
-      const struct ibz_step_answer a = ibz_step(block, block_length, memory, memory_length, set >> 3 & 1u ? 8 : 0, 0, journal, length, mark);
+      const uint32_t level = set >> 3 & 1u ? 8 : 0;
+      const struct ibz_step_answer a = ibz_step(block, block_length, memory, memory_length, level, 0, journal, length, mark);
       EXPECT(n == 0 ? a.number == 0 : step_refused(a, n, mark));
       set_up(set);
     }
@@ -130,7 +131,8 @@ static void blocks(void) {
 
 static void memories(void) {
   static const struct { size_t length; uint32_t number; } cases[] = {
-      {0, 1}, {1, 1}, {1022, 1}, {1023, 1}, {1024, 0}, {1025, 1}, {1026, 0}, {16777214, 0}, {16777215, 1}, {16777216, 0}, {16777217, 1}, {16777218, 1}};
+      {0, 1}, {1, 1}, {1022, 1}, {1023, 1}, {1024, 0}, {1025, 1}, {1026, 0},
+      {16777214, 0}, {16777215, 1}, {16777216, 0}, {16777217, 1}, {16777218, 1}};
   uint8_t *large = guarded(16777218, 1);
   for (unsigned i = 0; i < sizeof cases / sizeof *cases; i++) {
     fresh(0x7001);
@@ -320,7 +322,8 @@ static void examples(void) {
 /* Eight steps of a small program: it writes memory, calls, traps and returns. */
 static size_t program(uint8_t *b, uint8_t *m, uint8_t *j) {
   static const uint8_t image[] = {0, 0, 0x10, 0, 0, 0, 4, 0};
-  static const uint8_t code[] = {0x70, 0x2A, 0x31, 0xC0, 0x08, 0x00, 0x61, 0x04, 0x4E, 0x41, 0x60, 0xFE, 0x42, 0x78, 0x08, 0x00, 0x4E, 0x75};
+  static const uint8_t code[] = {0x70, 0x2A, 0x31, 0xC0, 0x08, 0x00, 0x61, 0x04, 0x4E, 0x41, 0x60, 0xFE, /* from 0x400 on */
+                                 0x42, 0x78, 0x08, 0x00, 0x4E, 0x75};                                     /* the subroutine */
   memset(m, 0, MEMORY);
   memcpy(m, image, sizeof image);
   memcpy(m + 0x400, code, sizeof code);
@@ -335,7 +338,8 @@ static void way_back(void) {
   static uint8_t other[BLOCK + 3], other_memory[MEMORY], other_journal[JOURNAL], start[BLOCK];
   size_t mark = program(block, memory, journal);
   const size_t other_mark = program(other + 1, other_memory, other_journal);
-  EXPECT(other_mark == mark && memcmp(other + 1, block, BLOCK) == 0 && memcmp(other_memory, memory, MEMORY) == 0 && memcmp(other_journal, journal, mark) == 0);
+  EXPECT(other_mark == mark && memcmp(other + 1, block, BLOCK) == 0);
+  EXPECT(memcmp(other_memory, memory, MEMORY) == 0 && memcmp(other_journal, journal, mark) == 0);
   /* two machines in turns: what is undone on one is not undone on the other */
   size_t marks_of[2] = {mark, other_mark};
   for (unsigned i = 0; i < 16; i++) {

@@ -98,7 +98,8 @@ static uint32_t one_reset(void) {
 
 static uint32_t one_step(void) {
   const uint32_t level = below(4) ? 0 : below(4) ? below(8) : any();
-  const struct ibz_step_answer a = ibz_step(block, block_length, memory, memory_length, level, (uint8_t)any(), journal, journal_length, mark);
+  const uint8_t vector = (uint8_t)any();
+  const struct ibz_step_answer a = ibz_step(block, block_length, memory, memory_length, level, vector, journal, journal_length, mark);
   EXPECT(can_give("01234569", a.number) && a.event <= IBZ_EVENT_HALT);
   if (a.number == 0) {
     EXPECT(a.mark > mark && a.mark - mark <= IBZ_RECORD_MOST && a.mark <= journal_length);
