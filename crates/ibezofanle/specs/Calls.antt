@@ -29,6 +29,7 @@ pub record IbzReset : Type 0 where
   pub b : List ℕ
   pub a : ResetAnswer
 
+-- the machine's reset, its slots put into the block; at 9 the block stays  [K1]
 unfoldable pub ibz-reset : List ℕ → List ℕ → IbzReset
 ibz-reset b m =
     pick (block-fits b)
@@ -61,6 +62,7 @@ run-refusal mark n = record { number = n; reason = 0; mark = mark; steps = 0 }
 abbrev pub undo-refusal : ℕ → ℕ → UndoAnswer
 undo-refusal mark n = record { number = n; mark = mark }
 
+-- the machine's step, run and undo on the slots that the block holds; undo only reads the journal  [K1]
 unfoldable pub ibz-step : List ℕ → List ℕ → ℕ → ℕ → List ℕ → ℕ → OnBlock StepAnswer
 ibz-step b m level vector j mark =
     let c = step-call (slots-in b) m level vector j mark in on-block b m j (step-refusal mark) (c .s) (c .m) (c .j) (c .a)
@@ -69,7 +71,6 @@ unfoldable pub ibz-run : List ℕ → List ℕ → ℕ → ℕ → List ℕ → 
 ibz-run b m budget stop j mark =
     let c = run-call (slots-in b) m budget stop j mark in on-block b m j (run-refusal mark) (c .s) (c .m) (c .j) (c .a)
 
--- undo only reads the journal  [01 The journal]
 unfoldable pub ibz-undo : List ℕ → List ℕ → List ℕ → ℕ → OnBlock UndoAnswer
 ibz-undo b m j mark =
     let c = undo-call (slots-in b) m j mark in on-block b m j (undo-refusal mark) (c .s) (c .m) j (c .a)
