@@ -232,6 +232,7 @@ static void resets(void) {
   EXPECT(ibz_reset(block, BLOCK, memory, 1023).number == IBZ_BAD_MEMORY); /* the fixed state */
   for (unsigned i = 0; i < IBZ_SLOTS; i++) EXPECT(ibz_get(block, i) == (i == IBZ_MODE ? 2u : 0u));
   EXPECT(block[BLOCK] == (uint8_t)(BLOCK * 7 + 1));
+  EXPECT(ibz_reset(block, BLOCK, NULL, 0).number == IBZ_BAD_MEMORY && ibz_get(block, IBZ_MODE) == 2);
   memset(block, 0xFF, BLOCK); /* it looks at no slot */
   put(0, 0x0102), put(2, 0x0304), put(4, 0xA0B0), put(6, 0xC0D0);
   keep();
