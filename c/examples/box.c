@@ -139,25 +139,22 @@ static void forget(void) {
 
 enum { WORDS = 4 };
 
+/* A number that is the whole of a word: decimal, or hex as 0x1F or $1F. */
 static int number(const char *text, unsigned long *value) {
   char *end;
-  const int dollar = text[0] == '$';
-  *value = strtoul(text + dollar, &end, dollar ? 16 : 0);
-  return text[dollar] >= '0' && (end != text + dollar) && *end == 0;
+  const int dollar = text[0] == '$', hex = dollar || (text[0] == '0' && (text[1] == 'x' || text[1] == 'X'));
+  *value = strtoul(text + dollar, &end, hex ? 16 : 10);
+  return text[dollar] >= '0' && end != text + dollar && *end == 0;
 }
 
-/* The words of a line; more than it has are "". */
+/* The words of a line, as far as there is room for them. */
 static int split(char *line, char **words) {
   int n = 0;
-  for (char *p = line; n < WORDS;) {
-    p += strspn(p, " \t\r\n");
-    words[n] = p;
-    if (*p != 0) n++;
-    else break;
+  for (char *p = line + strspn(line, " \t\r\n"); n < WORDS && *p != 0; p += strspn(p, " \t\r\n")) {
+    words[n++] = p;
     p += strcspn(p, " \t\r\n");
     if (*p != 0) *p++ = 0;
   }
-  for (int i = n; i < WORDS; i++) words[i] = line + strlen(line);
   return n;
 }
 

@@ -336,7 +336,8 @@ static size_t program(uint8_t *b, uint8_t *m, uint8_t *j) {
 }
 
 static void way_back(void) {
-  static uint8_t other[BLOCK + 3], other_memory[MEMORY], other_journal[JOURNAL], start[BLOCK];
+  static uint8_t other[BLOCK + 3], other_room[MEMORY + 1], other_records[JOURNAL + 1], start[BLOCK];
+  uint8_t *const other_memory = other_room + 1, *const other_journal = other_records + 1; /* of another alignment */
   size_t mark = program(block, memory, journal);
   const size_t other_mark = program(other + 1, other_memory, other_journal);
   EXPECT(other_mark == mark && memcmp(other + 1, block, BLOCK) == 0);

@@ -1,6 +1,6 @@
 /* calls.c - calls from C, so many of one kind, for `calls` beside it to count: calls KIND COUNT < IMAGE
- * Kinds: step and undo (a step and its undo) call by call; run, a run of COUNT steps; loop, none; nine and memory, a step that is
- * refused by 9 and by 1. The journal has room for one call, or for all steps of a run; the mark is 0 before each. It tells PC. */
+ * Kinds: step, a step; undo, a step, its undo and the step again; run, COUNT steps in runs; loop, nothing; nine and memory, a step that
+ * is refused by 9 and by 1. The mark is 0 before each, and before each run. It tells PC. */
 #include "ibezofanle.h"
 #include <stdio.h>
 #include <stdlib.h>
@@ -8,7 +8,7 @@
 
 enum { MEMORY = 65536 };
 
-static uint8_t block[IBZ_BLOCK_LENGTH], memory[MEMORY], journal[1 << 28];
+static uint8_t block[IBZ_BLOCK_LENGTH], memory[MEMORY], journal[1 << 26];
 
 int main(int argc, char **argv) {
   if (argc != 3 || fread(memory, 1, MEMORY, stdin) < 8) return 2;

@@ -1,5 +1,5 @@
 -- CallLaws.antt - the laws that the four functions cite: refusal 9, and a call of the machine whose slots were read and written back.
--- * on-block-nine, on-block-held: a call on a block of another length, and on one that fits.
+-- * on-block-held: a call on a block that fits.
 -- * ibz-reset-nine, .. -step-, -run-, -undo-nine; ibz-reset-held, .. -step-, -run-, -undo-held: the same as promises.
 -- Source: [K1].
 use Prim.Native.Nat.{ℕ}
@@ -12,14 +12,11 @@ use Rattle.machine.specs.declared.RunAnswer.{RunAnswer}
 use Rattle.machine.specs.declared.UndoAnswer.{UndoAnswer}
 use Rattle.machine.specs.Promises.{ResetPromise, StepPromise, RunPromise, UndoPromise}
 use Rattle.block.specs.Block.{block-length, slots-in, block-of}
-use Rattle.ibezofanle.specs.Calls.{no-block, OnBlock, on-block, step-refusal, run-refusal, undo-refusal, ibz-reset, ibz-step, ibz-run, ibz-undo}
+use Rattle.ibezofanle.specs.Calls.{no-block, on-block, step-refusal, run-refusal, undo-refusal, ibz-reset, ibz-step, ibz-run, ibz-undo}
 use Rattle.ibezofanle.specs.Promises.{IbzResetPromise, IbzStepPromise, IbzRunPromise, IbzUndoPromise}
 
 -- ---- any call
 module _ {A : Type 0} (b m j : List ℕ) (refusal : ℕ → A) (s₁ m₁ j₁ : List ℕ) (a : A) where
-  pub on-block-nine : (length b ≡ block-length → ⊥) → on-block b m j refusal s₁ m₁ j₁ a ≡ record { b = b; m = m; j = j; a = refusal no-block }
-  on-block-nine h = rw (ne-eqb (length b) block-length h)
-
   pub on-block-held : length b ≡ block-length → on-block b m j refusal s₁ m₁ j₁ a ≡ record { b = block-of s₁; m = m₁; j = j₁; a = a }
   on-block-held e = rw (eq-eqb (length b) block-length e)
 

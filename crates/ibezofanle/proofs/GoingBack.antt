@@ -16,7 +16,7 @@ use mathlib.Core.List.{List, [], _∷_}
 use lib.ListN.{length}
 use Rattle.record.specs.Limits.{slot-limit, ValidBytes}
 use Rattle.machine.specs.History.{Machine, Request, Call, step-of, run-of, undo-once, stepping, running-on, undoing, act, number-told, steps-told}
-use Rattle.machine.specs.History.{machine-calls, after, NeverAhead, standing, Seen, seen, taken-alone}
+use Rattle.machine.specs.History.{machine-calls, after, NeverAhead, standing, seen, taken-alone}
 use Rattle.machine.proofs.ValidLaws.{Lent}
 use Rattle.machine.proofs.SlotsLaws.{twenty-of-act}
 use Rattle.machine.proofs.HistoryLaws.{Carries, good-along, after-carried, standing-carried, ahead-carried}
@@ -24,7 +24,7 @@ use Rattle.machine.proofs.GoingBack.{going-back, undo-when-standing}
 use Rattle.block.specs.Block.{block-length, slots-in, block-of}
 use Rattle.block.proofs.BlockLaws.{length-of-slots, length-of-block, words-of-slots, slots-in-block, block-of-slots-in}
 use Rattle.ibezofanle.specs.Calls.{OnBlock, step-refusal, run-refusal, undo-refusal, ibz-step, ibz-run, ibz-undo}
-use Rattle.ibezofanle.specs.History.{Box, ibz-stepping, ibz-running, ibz-undoing, ibz-act, ibz-number, ibz-steps, ibz-calls}
+use Rattle.ibezofanle.specs.History.{Box, ibz-stepping, ibz-running, ibz-undoing, box-left, ibz-act, ibz-number, ibz-steps, ibz-calls}
 use Rattle.ibezofanle.specs.History.{BoxSeen, ibz-seen, machine-in, in-block}
 use Rattle.ibezofanle.proofs.CallLaws.{on-block-held}
 
@@ -37,10 +37,6 @@ module _ (x : Box) (e : length (x .block) ≡ block-length) where
   -- its answer is that of the machine's call, and the block that it leaves holds the slots that the machine's call leaves
   abbrev held : {A : Type 0} → List ℕ → List ℕ → List ℕ → A → OnBlock A
   held s m j a = record { b = block-of s; m = m; j = j; a = a }
-
-  -- what is kept of it for the next call
-  abbrev kept : {A : Type 0} → (A → ℕ) → OnBlock A → Box
-  kept mark c = record { block = c .b; memory = c .m; journal = c .j; mark = mark (c .a) }
 
   ibz-stepping-held : (level vector : ℕ)
       → ibz-stepping level vector x ≡ (let c = stepping level vector (machine-in x) in held (c .s) (c .m) (c .j) (c .a))
@@ -59,9 +55,9 @@ module _ (x : Box) (e : length (x .block) ≡ block-length) where
   -- so the box after it is that of the machine after the machine's call, and the answers tell the same
   ibz-act-held : (c : Call) → ibz-act c x ≡ box-of (act c (machine-in x))
   unfolding act ibz-act
-  ibz-act-held (step-of level vector) = ap (kept (λ a. a .mark)) (ibz-stepping-held level vector)
-  ibz-act-held (run-of budget stop) = ap (kept (λ a. a .mark)) (ibz-running-held budget stop)
-  ibz-act-held undo-once = ap (kept (λ a. a .mark)) ibz-undoing-held
+  ibz-act-held (step-of level vector) = ap (box-left (λ a. a .mark)) (ibz-stepping-held level vector)
+  ibz-act-held (run-of budget stop) = ap (box-left (λ a. a .mark)) (ibz-running-held budget stop)
+  ibz-act-held undo-once = ap (box-left (λ a. a .mark)) ibz-undoing-held
 
   number-held : (c : Call) → ibz-number c x ≡ number-told c (machine-in x)
   number-held (step-of level vector) = ap (λ c. c .a .number) (ibz-stepping-held level vector)

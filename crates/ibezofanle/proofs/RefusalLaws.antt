@@ -13,14 +13,13 @@ use mathlib.Core.Bool.{Bool, true, false}
 use mathlib.Core.List.{List, [], _∷_}
 use native.Mathlib.Omega.{arith}
 use lib.ListN.{length}
-use lib.Dec.{eqb}
 use borrow.Author.Tests.{eqb-true, eqb-false, eq-eqb, ne-eqb}
 use Rattle.bits.specs.Bits.{pick}
 use Rattle.record.specs.Limits.{ValidBytes}
 use Rattle.machine.specs.declared.StepAnswer.{StepAnswer}
 use Rattle.machine.specs.declared.RunAnswer.{RunAnswer}
 use Rattle.machine.specs.declared.UndoAnswer.{UndoAnswer}
-use Rattle.machine.specs.Calls.{StepCall, RunCall, UndoCall, refused-slots, reset-number, reset-call, step-call, run-call, undo-call}
+use Rattle.machine.specs.Calls.{StepCall, RunCall, UndoCall, refused-slots, reset-number, step-call, run-call, undo-call}
 use Rattle.machine.specs.Refusals.{Line, Given, zero-at-end, this, later, NoneApplies, reset-table, step-table, run-table, undo-table}
 use Rattle.machine.proofs.RefusalLaws.{Lowest, Verdict, given-unique, reset-verdict, step-verdict, run-verdict, undo-verdict}
 use Rattle.machine.proofs.RefusalLaws.{reset-refused, step-refused, run-refused, undo-refused}

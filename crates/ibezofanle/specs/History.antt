@@ -29,17 +29,15 @@ ibz-running budget stop x = ibz-run (x .block) (x .memory) budget stop (x .journ
 abbrev pub ibz-undoing : Box → OnBlock UndoAnswer
 ibz-undoing x = ibz-undo (x .block) (x .memory) (x .journal) (x .mark)
 
+-- what a call leaves for the next one; mark tells the mark of its answer  [00 demand 3]
+abbrev pub box-left : {A : Type 0} → (A → ℕ) → OnBlock A → Box
+box-left mark c = record { block = c .b; memory = c .m; journal = c .j; mark = mark (c .a) }
+
 -- the box after a call: what the next call is given  [00 demand 3]
 unfoldable pub ibz-act : Call → Box → Box
-ibz-act (step-of level vector) x =
-    let c = ibz-stepping level vector x in
-    record { block = c .b; memory = c .m; journal = c .j; mark = c .a .mark }
-ibz-act (run-of budget stop) x =
-    let c = ibz-running budget stop x in
-    record { block = c .b; memory = c .m; journal = c .j; mark = c .a .mark }
-ibz-act undo-once x =
-    let c = ibz-undoing x in
-    record { block = c .b; memory = c .m; journal = c .j; mark = c .a .mark }
+ibz-act (step-of level vector) x = box-left (λ (a : StepAnswer). a .mark) (ibz-stepping level vector x)
+ibz-act (run-of budget stop) x = box-left (λ (a : RunAnswer). a .mark) (ibz-running budget stop x)
+ibz-act undo-once x = box-left (λ (a : UndoAnswer). a .mark) (ibz-undoing x)
 
 -- the number of a call's answer, and the steps that a run tells  [K1]
 abbrev pub ibz-number : Call → Box → ℕ
