@@ -3,6 +3,7 @@
 // Uses: bits, flags, alu, shift, bus, operand, plan.  Source: [003 3.5], [003 3.6], [003 B], [01 Arithmetic].
 ghost use mathlib.Core.Path.{_≡_};
 ghost use Rattle.bus.specs.Bus.{view-of};
+ghost use Rattle.plan.specs.Plans.{Done};
 ghost use Rattle.bitwise.specs.Bitwise.{shift-count, shift-place, shift-register, shift-memory, bit-size, bit-place, bit-dynamic, bit-static};
 use bus::Flow;
 use plan::Plan;
@@ -29,8 +30,7 @@ fn shift_place(
     op: u32,
     f: Flow,
 ) -> Plan
-    ensures { λ p. ⌜ p ≡ shift-place k n mode z (now (r .entry)) (view-of (now (mem .entry))) op f .p ⌝ }
-    ensures { λ p. ⌜ now (r .exit) ≡ shift-place k n mode z (now (r .entry)) (view-of (now (mem .entry))) op f .r ⌝ }
+    ensures { λ p. ⌜ record { r = now (r .exit); p = p } ≡ shift-place k n mode z (now (r .entry)) (view-of (now (mem .entry))) op f ⌝ }
 {
     let left = op / 256 % 2 == 1;
     let d = operand::modify(r, mem, mode, op % 8, z, f);
@@ -41,8 +41,7 @@ fn shift_place(
 
 // A data register, at any size.
 pub fn shift_register(r: &mut [u32; 20], mem: &[u8], op: u32, f: Flow) -> Plan
-    ensures { λ p. ⌜ p ≡ shift-register (now (r .entry)) (view-of (now (mem .entry))) op f .p ⌝ }
-    ensures { λ p. ⌜ now (r .exit) ≡ shift-register (now (r .entry)) (view-of (now (mem .entry))) op f .r ⌝ }
+    ensures { λ p. ⌜ record { r = now (r .exit); p = p } ≡ shift-register (now (r .entry)) (view-of (now (mem .entry))) op f ⌝ }
 {
     let n = shift_count(r, op);
     shift_place(op / 8 % 4, n, 0, op / 64 % 4, r, mem, op, f)
@@ -50,8 +49,7 @@ pub fn shift_register(r: &mut [u32; 20], mem: &[u8], op: u32, f: Flow) -> Plan
 
 // A word in memory, one place.
 pub fn shift_memory(r: &mut [u32; 20], mem: &[u8], op: u32, f: Flow) -> Plan
-    ensures { λ p. ⌜ p ≡ shift-memory (now (r .entry)) (view-of (now (mem .entry))) op f .p ⌝ }
-    ensures { λ p. ⌜ now (r .exit) ≡ shift-memory (now (r .entry)) (view-of (now (mem .entry))) op f .r ⌝ }
+    ensures { λ p. ⌜ record { r = now (r .exit); p = p } ≡ shift-memory (now (r .entry)) (view-of (now (mem .entry))) op f ⌝ }
 {
     shift_place(op / 512 % 4, 1, op / 8 % 8, 1, r, mem, op, f)
 }
@@ -66,8 +64,7 @@ fn bit_size(op: u32) -> u32
 
 // BTST, BCHG, BCLR, BSET of bit n; BTST writes nothing.
 fn bit_place(n: u32, r: &mut [u32; 20], mem: &[u8], op: u32, f: Flow) -> Plan
-    ensures { λ p. ⌜ p ≡ bit-place n (now (r .entry)) (view-of (now (mem .entry))) op f .p ⌝ }
-    ensures { λ p. ⌜ now (r .exit) ≡ bit-place n (now (r .entry)) (view-of (now (mem .entry))) op f .r ⌝ }
+    ensures { λ p. ⌜ record { r = now (r .exit); p = p } ≡ bit-place n (now (r .entry)) (view-of (now (mem .entry))) op f ⌝ }
 {
     let z = bit_size(op);
     let k = op / 64 % 4;
@@ -84,8 +81,7 @@ fn bit_place(n: u32, r: &mut [u32; 20], mem: &[u8], op: u32, f: Flow) -> Plan
 
 // The bit's number is in a data register.
 pub fn bit_dynamic(r: &mut [u32; 20], mem: &[u8], op: u32, f: Flow) -> Plan
-    ensures { λ p. ⌜ p ≡ bit-dynamic (now (r .entry)) (view-of (now (mem .entry))) op f .p ⌝ }
-    ensures { λ p. ⌜ now (r .exit) ≡ bit-dynamic (now (r .entry)) (view-of (now (mem .entry))) op f .r ⌝ }
+    ensures { λ p. ⌜ record { r = now (r .exit); p = p } ≡ bit-dynamic (now (r .entry)) (view-of (now (mem .entry))) op f ⌝ }
 {
     let n = operand::get(r, op / 512 % 8);
     bit_place(n, r, mem, op, f)
@@ -93,8 +89,7 @@ pub fn bit_dynamic(r: &mut [u32; 20], mem: &[u8], op: u32, f: Flow) -> Plan
 
 // The bit's number is in the word after the operation word.
 pub fn bit_static(r: &mut [u32; 20], mem: &[u8], op: u32, f: Flow) -> Plan
-    ensures { λ p. ⌜ p ≡ bit-static (now (r .entry)) (view-of (now (mem .entry))) op f .p ⌝ }
-    ensures { λ p. ⌜ now (r .exit) ≡ bit-static (now (r .entry)) (view-of (now (mem .entry))) op f .r ⌝ }
+    ensures { λ p. ⌜ record { r = now (r .exit); p = p } ≡ bit-static (now (r .entry)) (view-of (now (mem .entry))) op f ⌝ }
 {
     let w = bus::next_word(mem, f);
     let g = w.flow;

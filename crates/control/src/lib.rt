@@ -3,7 +3,7 @@
 // Uses: bits, flags, bus, operand, plan.  Source: [003 3.8], [003 B], [01 step 6], [01 Operands], [01 Easy slips].
 ghost use mathlib.Core.Path.{_≡_};
 ghost use Rattle.bus.specs.Bus.{view-of};
-ghost use Rattle.plan.specs.Plans.{nothing};
+ghost use Rattle.plan.specs.Plans.{Done, nothing};
 ghost use Rattle.control.specs.Control.{displacement, jump-when, counted, branch-plan, branch-subroutine, decrement-branch, set-condition, jump-plan, jump-subroutine, return-restore, return-subroutine};
 use bus::Fetched;
 use bus::Flow;
@@ -50,8 +50,7 @@ pub fn branch(mem: &[u8], op: u32, f: Flow) -> Plan
 
 // BSR.
 pub fn branch_subroutine(r: &mut [u32; 20], mem: &[u8], op: u32, f: Flow) -> Plan
-    ensures { λ p. ⌜ p ≡ branch-subroutine (now (r .entry)) (view-of (now (mem .entry))) op f .p ⌝ }
-    ensures { λ p. ⌜ now (r .exit) ≡ branch-subroutine (now (r .entry)) (view-of (now (mem .entry))) op f .r ⌝ }
+    ensures { λ p. ⌜ record { r = now (r .exit); p = p } ≡ branch-subroutine (now (r .entry)) (view-of (now (mem .entry))) op f ⌝ }
 {
     let w = displacement(mem, op, f);
     let g = w.flow;
@@ -68,8 +67,7 @@ fn counted(r: &[u32; 20], n: u32) -> u32
 
 // DBcc.
 pub fn decrement_branch(r: &mut [u32; 20], mem: &[u8], op: u32, f: Flow) -> Plan
-    ensures { λ p. ⌜ p ≡ decrement-branch (now (r .entry)) (view-of (now (mem .entry))) op f .p ⌝ }
-    ensures { λ p. ⌜ now (r .exit) ≡ decrement-branch (now (r .entry)) (view-of (now (mem .entry))) op f .r ⌝ }
+    ensures { λ p. ⌜ record { r = now (r .exit); p = p } ≡ decrement-branch (now (r .entry)) (view-of (now (mem .entry))) op f ⌝ }
 {
     let w = bus::next_word(mem, f);
     let g = w.flow;
@@ -89,8 +87,7 @@ pub fn decrement_branch(r: &mut [u32; 20], mem: &[u8], op: u32, f: Flow) -> Plan
 
 // Scc. The flags stay as they are.
 pub fn set_condition(r: &mut [u32; 20], mem: &[u8], op: u32, f: Flow) -> Plan
-    ensures { λ p. ⌜ p ≡ set-condition (now (r .entry)) (view-of (now (mem .entry))) op f .p ⌝ }
-    ensures { λ p. ⌜ now (r .exit) ≡ set-condition (now (r .entry)) (view-of (now (mem .entry))) op f .r ⌝ }
+    ensures { λ p. ⌜ record { r = now (r .exit); p = p } ≡ set-condition (now (r .entry)) (view-of (now (mem .entry))) op f ⌝ }
 {
     let b = operand::modify(r, mem, op / 8 % 8, op % 8, 0, f);
     let q = b.q;
@@ -113,8 +110,7 @@ pub fn jump_to(r: &[u32; 20], mem: &[u8], op: u32, f: Flow) -> Plan
 
 // JSR. The address is formed before A7 falls.
 pub fn jump_subroutine(r: &mut [u32; 20], mem: &[u8], op: u32, f: Flow) -> Plan
-    ensures { λ p. ⌜ p ≡ jump-subroutine (now (r .entry)) (view-of (now (mem .entry))) op f .p ⌝ }
-    ensures { λ p. ⌜ now (r .exit) ≡ jump-subroutine (now (r .entry)) (view-of (now (mem .entry))) op f .r ⌝ }
+    ensures { λ p. ⌜ record { r = now (r .exit); p = p } ≡ jump-subroutine (now (r .entry)) (view-of (now (mem .entry))) op f ⌝ }
 {
     let q = operand::locate(r, mem, op / 8 % 8, op % 8, 2, f);
     let g = q.flow;
@@ -131,8 +127,7 @@ pub fn no_operation(f: Flow) -> Plan
 
 // RTR. Of the word only the flags are taken.
 pub fn return_restore(r: &mut [u32; 20], mem: &[u8], op: u32, f: Flow) -> Plan
-    ensures { λ p. ⌜ p ≡ return-restore (now (r .entry)) (view-of (now (mem .entry))) op f .p ⌝ }
-    ensures { λ p. ⌜ now (r .exit) ≡ return-restore (now (r .entry)) (view-of (now (mem .entry))) op f .r ⌝ }
+    ensures { λ p. ⌜ record { r = now (r .exit); p = p } ≡ return-restore (now (r .entry)) (view-of (now (mem .entry))) op f ⌝ }
 {
     let c = operand::source(r, mem, 3, 7, 1, f);
     let g = c.flow;
@@ -143,8 +138,7 @@ pub fn return_restore(r: &mut [u32; 20], mem: &[u8], op: u32, f: Flow) -> Plan
 
 // RTS.
 pub fn return_subroutine(r: &mut [u32; 20], mem: &[u8], op: u32, f: Flow) -> Plan
-    ensures { λ p. ⌜ p ≡ return-subroutine (now (r .entry)) (view-of (now (mem .entry))) op f .p ⌝ }
-    ensures { λ p. ⌜ now (r .exit) ≡ return-subroutine (now (r .entry)) (view-of (now (mem .entry))) op f .r ⌝ }
+    ensures { λ p. ⌜ record { r = now (r .exit); p = p } ≡ return-subroutine (now (r .entry)) (view-of (now (mem .entry))) op f ⌝ }
 {
     let t = operand::source(r, mem, 3, 7, 2, f);
     let g = t.flow;

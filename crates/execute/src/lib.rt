@@ -4,6 +4,7 @@
 ghost use mathlib.Core.Path.{_≡_};
 ghost use Prim.Native.Nat.{ℕ, _+_, _*_, _%_, _/_, _<_, _≤_};
 ghost use Rattle.bus.specs.Bus.{view-of};
+ghost use Rattle.plan.specs.Plans.{Done};
 ghost use Rattle.execute.specs.Dispatch.{refused-plan, refused-kind, movement-kind, integer-kind, logical-kind, control-kind, system-kind, dispatch, as-user, execute};
 use bus::Flow;
 use plan::Plan;
@@ -17,8 +18,7 @@ fn refused(vec: u32, f: Flow) -> Plan
 
 // Kinds 0 to 2: illegal, and words that begin 1010 and 1111.
 fn refused_kind(j: u32, r: &[u32; 20], mem: &[u8], op: u32, f: Flow) -> Plan
-    ensures { λ p. ⌜ p ≡ refused-kind j (now (r .entry)) (view-of (now (mem .entry))) op f .p ⌝ }
-    ensures { λ p. ⌜ now (r .entry) ≡ refused-kind j (now (r .entry)) (view-of (now (mem .entry))) op f .r ⌝ }
+    ensures { λ p. ⌜ record { r = now (r .entry); p = p } ≡ refused-kind j (now (r .entry)) (view-of (now (mem .entry))) op f ⌝ }
 {
     match j {
         0 => refused(4, f),
@@ -29,8 +29,7 @@ fn refused_kind(j: u32, r: &[u32; 20], mem: &[u8], op: u32, f: Flow) -> Plan
 
 // Kinds 3 to 17.
 fn movement_kind(j: u32, r: &mut [u32; 20], mem: &[u8], op: u32, f: Flow) -> Plan
-    ensures { λ p. ⌜ p ≡ movement-kind j (now (r .entry)) (view-of (now (mem .entry))) op f .p ⌝ }
-    ensures { λ p. ⌜ now (r .exit) ≡ movement-kind j (now (r .entry)) (view-of (now (mem .entry))) op f .r ⌝ }
+    ensures { λ p. ⌜ record { r = now (r .exit); p = p } ≡ movement-kind j (now (r .entry)) (view-of (now (mem .entry))) op f ⌝ }
 {
     match j {
         0 => movement::move_data(r, mem, op, f),
@@ -53,8 +52,7 @@ fn movement_kind(j: u32, r: &mut [u32; 20], mem: &[u8], op: u32, f: Flow) -> Pla
 
 // Kinds 18 to 45.
 fn integer_kind(j: u32, r: &mut [u32; 20], mem: &[u8], op: u32, f: Flow) -> Plan
-    ensures { λ p. ⌜ p ≡ integer-kind j (now (r .entry)) (view-of (now (mem .entry))) op f .p ⌝ }
-    ensures { λ p. ⌜ now (r .exit) ≡ integer-kind j (now (r .entry)) (view-of (now (mem .entry))) op f .r ⌝ }
+    ensures { λ p. ⌜ record { r = now (r .exit); p = p } ≡ integer-kind j (now (r .entry)) (view-of (now (mem .entry))) op f ⌝ }
 {
     match j {
         0 => integer::to_register(0, r, mem, op, f),
@@ -90,8 +88,7 @@ fn integer_kind(j: u32, r: &mut [u32; 20], mem: &[u8], op: u32, f: Flow) -> Plan
 
 // Kinds 46 to 61: logical, shift and rotate, bit, decimal.
 fn logical_kind(j: u32, r: &mut [u32; 20], mem: &[u8], op: u32, f: Flow) -> Plan
-    ensures { λ p. ⌜ p ≡ logical-kind j (now (r .entry)) (view-of (now (mem .entry))) op f .p ⌝ }
-    ensures { λ p. ⌜ now (r .exit) ≡ logical-kind j (now (r .entry)) (view-of (now (mem .entry))) op f .r ⌝ }
+    ensures { λ p. ⌜ record { r = now (r .exit); p = p } ≡ logical-kind j (now (r .entry)) (view-of (now (mem .entry))) op f ⌝ }
 {
     match j {
         0 => integer::to_register(3, r, mem, op, f),
@@ -115,8 +112,7 @@ fn logical_kind(j: u32, r: &mut [u32; 20], mem: &[u8], op: u32, f: Flow) -> Plan
 
 // Kinds 62 to 71.
 fn control_kind(j: u32, r: &mut [u32; 20], mem: &[u8], op: u32, f: Flow) -> Plan
-    ensures { λ p. ⌜ p ≡ control-kind j (now (r .entry)) (view-of (now (mem .entry))) op f .p ⌝ }
-    ensures { λ p. ⌜ now (r .exit) ≡ control-kind j (now (r .entry)) (view-of (now (mem .entry))) op f .r ⌝ }
+    ensures { λ p. ⌜ record { r = now (r .exit); p = p } ≡ control-kind j (now (r .entry)) (view-of (now (mem .entry))) op f ⌝ }
 {
     match j {
         0 => control::branch(mem, op, f),
@@ -134,8 +130,7 @@ fn control_kind(j: u32, r: &mut [u32; 20], mem: &[u8], op: u32, f: Flow) -> Plan
 
 // Kinds 72 to 88.
 fn system_kind(j: u32, r: &mut [u32; 20], mem: &[u8], op: u32, f: Flow) -> Plan
-    ensures { λ p. ⌜ p ≡ system-kind j (now (r .entry)) (view-of (now (mem .entry))) op f .p ⌝ }
-    ensures { λ p. ⌜ now (r .exit) ≡ system-kind j (now (r .entry)) (view-of (now (mem .entry))) op f .r ⌝ }
+    ensures { λ p. ⌜ record { r = now (r .exit); p = p } ≡ system-kind j (now (r .entry)) (view-of (now (mem .entry))) op f ⌝ }
 {
     match j {
         0 => system::immediate_to_ccr(0, mem, f),
@@ -160,8 +155,7 @@ fn system_kind(j: u32, r: &mut [u32; 20], mem: &[u8], op: u32, f: Flow) -> Plan
 
 // The function of a kind.
 fn dispatch(k: u32, r: &mut [u32; 20], mem: &[u8], op: u32, f: Flow) -> Plan
-    ensures { λ p. ⌜ p ≡ dispatch k (now (r .entry)) (view-of (now (mem .entry))) op f .p ⌝ }
-    ensures { λ p. ⌜ now (r .exit) ≡ dispatch k (now (r .entry)) (view-of (now (mem .entry))) op f .r ⌝ }
+    ensures { λ p. ⌜ record { r = now (r .exit); p = p } ≡ dispatch k (now (r .entry)) (view-of (now (mem .entry))) op f ⌝ }
 {
     let first = k < 3;
     if first {
@@ -188,8 +182,7 @@ fn dispatch(k: u32, r: &mut [u32; 20], mem: &[u8], op: u32, f: Flow) -> Plan
 
 // In user state a privileged instruction is refused.
 fn as_user(k: u32, r: &mut [u32; 20], mem: &[u8], op: u32, f: Flow) -> Plan
-    ensures { λ p. ⌜ p ≡ as-user k (now (r .entry)) (view-of (now (mem .entry))) op f .p ⌝ }
-    ensures { λ p. ⌜ now (r .exit) ≡ as-user k (now (r .entry)) (view-of (now (mem .entry))) op f .r ⌝ }
+    ensures { λ p. ⌜ record { r = now (r .exit); p = p } ≡ as-user k (now (r .entry)) (view-of (now (mem .entry))) op f ⌝ }
 {
     let high = decode::privileged(k);
     if high {
@@ -200,8 +193,7 @@ fn as_user(k: u32, r: &mut [u32; 20], mem: &[u8], op: u32, f: Flow) -> Plan
 
 // The operation word alone decides illegal and privileged.
 pub fn execute(r: &mut [u32; 20], mem: &[u8], op: u32, f: Flow) -> Plan
-    ensures { λ p. ⌜ p ≡ execute (now (r .entry)) (view-of (now (mem .entry))) op f .p ⌝ }
-    ensures { λ p. ⌜ now (r .exit) ≡ execute (now (r .entry)) (view-of (now (mem .entry))) op f .r ⌝ }
+    ensures { λ p. ⌜ record { r = now (r .exit); p = p } ≡ execute (now (r .entry)) (view-of (now (mem .entry))) op f ⌝ }
 {
     let k = decode::kind_of(op);
     let user = f.sr / 8192 % 2 == 0;

@@ -3,9 +3,9 @@
 // Uses: bits, flags, alu, decimal, signed, bus, operand, plan.  Source: [003 3.3], [003 3.4], [003 3.7], [003 B], [01 Operands], [01 Arithmetic].
 ghost use mathlib.Core.Path.{_≡_};
 ghost use Rattle.bus.specs.Bus.{view-of};
-ghost use Rattle.plan.specs.Plans.{nothing};
+ghost use Rattle.plan.specs.Plans.{Done};
 ghost use Rattle.integer.specs.Integer.{binary, address-sum, continuing, unary-result, product-by, quotient-by, only-flags, into-register, onto, alone};
-ghost use Rattle.integer.specs.Integer.{to-register, to-memory, immediate-to, compare-immediate, quick-to, quick-registers, to-address, compare-address};
+ghost use Rattle.integer.specs.Integer.{to-register, to-memory, immediate-to, compare-immediate, quick-to, quick-sum, to-address, compare-address};
 ghost use Rattle.integer.specs.Integer.{paired, compare-memory, unary, extend, test, multiply, divide};
 use bus::Flow;
 use flags::Flagged;
@@ -92,8 +92,7 @@ fn only_flags(a: Flagged, f: Flow) -> Plan
 
 // A result and its flags, to register n.
 fn into_register(r: &mut [u32; 20], n: u32, z: u32, a: Flagged, f: Flow) -> Plan
-    ensures { λ p. ⌜ p ≡ into-register (now (r .entry)) n z a f .p ⌝ }
-    ensures { λ p. ⌜ now (r .exit) ≡ into-register (now (r .entry)) n z a f .r ⌝ }
+    ensures { λ p. ⌜ record { r = now (r .exit); p = p } ≡ into-register (now (r .entry)) n z a f ⌝ }
 {
     operand::put_low(r, n, z, a.value);
     only_flags(a, f)
@@ -101,8 +100,7 @@ fn into_register(r: &mut [u32; 20], n: u32, z: u32, a: Flagged, f: Flow) -> Plan
 
 // ADD, SUB, AND, OR, CMP <ea>,Dn.
 pub fn to_register(which: u32, r: &mut [u32; 20], mem: &[u8], op: u32, f: Flow) -> Plan
-    ensures { λ p. ⌜ p ≡ to-register which (now (r .entry)) (view-of (now (mem .entry))) op f .p ⌝ }
-    ensures { λ p. ⌜ now (r .exit) ≡ to-register which (now (r .entry)) (view-of (now (mem .entry))) op f .r ⌝ }
+    ensures { λ p. ⌜ record { r = now (r .exit); p = p } ≡ to-register which (now (r .entry)) (view-of (now (mem .entry))) op f ⌝ }
 {
     let z = op / 64 % 4;
     let n = op / 512 % 8;
@@ -114,8 +112,7 @@ pub fn to_register(which: u32, r: &mut [u32; 20], mem: &[u8], op: u32, f: Flow) 
 
 // A source b onto the operand of the operation word's mode.
 fn onto(which: u32, b: u32, r: &mut [u32; 20], mem: &[u8], op: u32, f: Flow) -> Plan
-    ensures { λ p. ⌜ p ≡ onto which b (now (r .entry)) (view-of (now (mem .entry))) op f .p ⌝ }
-    ensures { λ p. ⌜ now (r .exit) ≡ onto which b (now (r .entry)) (view-of (now (mem .entry))) op f .r ⌝ }
+    ensures { λ p. ⌜ record { r = now (r .exit); p = p } ≡ onto which b (now (r .entry)) (view-of (now (mem .entry))) op f ⌝ }
 {
     let z = op / 64 % 4;
     let d = operand::modify(r, mem, op / 8 % 8, op % 8, z, f);
@@ -126,8 +123,7 @@ fn onto(which: u32, b: u32, r: &mut [u32; 20], mem: &[u8], op: u32, f: Flow) -> 
 
 // ADD, SUB, AND, OR, EOR Dn,<ea>.
 pub fn to_memory(which: u32, r: &mut [u32; 20], mem: &[u8], op: u32, f: Flow) -> Plan
-    ensures { λ p. ⌜ p ≡ to-memory which (now (r .entry)) (view-of (now (mem .entry))) op f .p ⌝ }
-    ensures { λ p. ⌜ now (r .exit) ≡ to-memory which (now (r .entry)) (view-of (now (mem .entry))) op f .r ⌝ }
+    ensures { λ p. ⌜ record { r = now (r .exit); p = p } ≡ to-memory which (now (r .entry)) (view-of (now (mem .entry))) op f ⌝ }
 {
     let b = operand::get(r, op / 512 % 8);
     onto(which, b, r, mem, op, f)
@@ -135,8 +131,7 @@ pub fn to_memory(which: u32, r: &mut [u32; 20], mem: &[u8], op: u32, f: Flow) ->
 
 // ADDI, SUBI, ANDI, ORI, EORI.
 pub fn immediate_to(which: u32, r: &mut [u32; 20], mem: &[u8], op: u32, f: Flow) -> Plan
-    ensures { λ p. ⌜ p ≡ immediate-to which (now (r .entry)) (view-of (now (mem .entry))) op f .p ⌝ }
-    ensures { λ p. ⌜ now (r .exit) ≡ immediate-to which (now (r .entry)) (view-of (now (mem .entry))) op f .r ⌝ }
+    ensures { λ p. ⌜ record { r = now (r .exit); p = p } ≡ immediate-to which (now (r .entry)) (view-of (now (mem .entry))) op f ⌝ }
 {
     let i = operand::immediate(mem, op / 64 % 4, f);
     let g = i.flow;
@@ -145,8 +140,7 @@ pub fn immediate_to(which: u32, r: &mut [u32; 20], mem: &[u8], op: u32, f: Flow)
 
 // CMPI.
 pub fn compare_immediate(r: &mut [u32; 20], mem: &[u8], op: u32, f: Flow) -> Plan
-    ensures { λ p. ⌜ p ≡ compare-immediate (now (r .entry)) (view-of (now (mem .entry))) op f .p ⌝ }
-    ensures { λ p. ⌜ now (r .exit) ≡ compare-immediate (now (r .entry)) (view-of (now (mem .entry))) op f .r ⌝ }
+    ensures { λ p. ⌜ record { r = now (r .exit); p = p } ≡ compare-immediate (now (r .entry)) (view-of (now (mem .entry))) op f ⌝ }
 {
     let z = op / 64 % 4;
     let i = operand::immediate(mem, z, f);
@@ -158,16 +152,14 @@ pub fn compare_immediate(r: &mut [u32; 20], mem: &[u8], op: u32, f: Flow) -> Pla
 
 // ADDQ, SUBQ to a place that is no address register.
 pub fn quick_to(which: u32, r: &mut [u32; 20], mem: &[u8], op: u32, f: Flow) -> Plan
-    ensures { λ p. ⌜ p ≡ quick-to which (now (r .entry)) (view-of (now (mem .entry))) op f .p ⌝ }
-    ensures { λ p. ⌜ now (r .exit) ≡ quick-to which (now (r .entry)) (view-of (now (mem .entry))) op f .r ⌝ }
+    ensures { λ p. ⌜ record { r = now (r .exit); p = p } ≡ quick-to which (now (r .entry)) (view-of (now (mem .entry))) op f ⌝ }
 {
     onto(which, plan::quick(op), r, mem, op, f)
 }
 
 // ADDQ, SUBQ to An: 32 bits at any size, and no flag.
 pub fn quick_address(which: u32, r: &mut [u32; 20], op: u32, f: Flow) -> Plan
-    ensures { λ p. ⌜ p ≡ nothing f ⌝ }
-    ensures { λ p. ⌜ now (r .exit) ≡ quick-registers which (now (r .entry)) op ⌝ }
+    ensures { λ p. ⌜ record { r = now (r .exit); p = p } ≡ quick-sum which (now (r .entry)) op f ⌝ }
 {
     let n = 8 + op % 8;
     let a = address_sum(which, operand::get(r, n), plan::quick(op));
@@ -177,8 +169,7 @@ pub fn quick_address(which: u32, r: &mut [u32; 20], op: u32, f: Flow) -> Plan
 
 // ADDA, SUBA: the address register as the source's step left it.
 pub fn to_address(which: u32, r: &mut [u32; 20], mem: &[u8], op: u32, f: Flow) -> Plan
-    ensures { λ p. ⌜ p ≡ to-address which (now (r .entry)) (view-of (now (mem .entry))) op f .p ⌝ }
-    ensures { λ p. ⌜ now (r .exit) ≡ to-address which (now (r .entry)) (view-of (now (mem .entry))) op f .r ⌝ }
+    ensures { λ p. ⌜ record { r = now (r .exit); p = p } ≡ to-address which (now (r .entry)) (view-of (now (mem .entry))) op f ⌝ }
 {
     let z = 1 + op / 256 % 2;
     let n = 8 + op / 512 % 8;
@@ -192,8 +183,7 @@ pub fn to_address(which: u32, r: &mut [u32; 20], mem: &[u8], op: u32, f: Flow) -
 
 // CMPA: 32 bits, the address register as the source's step left it.
 pub fn compare_address(r: &mut [u32; 20], mem: &[u8], op: u32, f: Flow) -> Plan
-    ensures { λ p. ⌜ p ≡ compare-address (now (r .entry)) (view-of (now (mem .entry))) op f .p ⌝ }
-    ensures { λ p. ⌜ now (r .exit) ≡ compare-address (now (r .entry)) (view-of (now (mem .entry))) op f .r ⌝ }
+    ensures { λ p. ⌜ record { r = now (r .exit); p = p } ≡ compare-address (now (r .entry)) (view-of (now (mem .entry))) op f ⌝ }
 {
     let z = 1 + op / 256 % 2;
     let n = 8 + op / 512 % 8;
@@ -205,8 +195,7 @@ pub fn compare_address(r: &mut [u32; 20], mem: &[u8], op: u32, f: Flow) -> Plan
 
 // ADDX, SUBX, ABCD, SBCD: Dy,Dx or -(Ay),-(Ax).
 pub fn paired(which: u32, r: &mut [u32; 20], mem: &[u8], op: u32, f: Flow) -> Plan
-    ensures { λ p. ⌜ p ≡ paired which (now (r .entry)) (view-of (now (mem .entry))) op f .p ⌝ }
-    ensures { λ p. ⌜ now (r .exit) ≡ paired which (now (r .entry)) (view-of (now (mem .entry))) op f .r ⌝ }
+    ensures { λ p. ⌜ record { r = now (r .exit); p = p } ≡ paired which (now (r .entry)) (view-of (now (mem .entry))) op f ⌝ }
 {
     let z = op / 64 % 4;
     let mode = op / 8 % 2 * 4;
@@ -220,8 +209,7 @@ pub fn paired(which: u32, r: &mut [u32; 20], mem: &[u8], op: u32, f: Flow) -> Pl
 
 // CMPM (Ay)+,(Ax)+.
 pub fn compare_memory(r: &mut [u32; 20], mem: &[u8], op: u32, f: Flow) -> Plan
-    ensures { λ p. ⌜ p ≡ compare-memory (now (r .entry)) (view-of (now (mem .entry))) op f .p ⌝ }
-    ensures { λ p. ⌜ now (r .exit) ≡ compare-memory (now (r .entry)) (view-of (now (mem .entry))) op f .r ⌝ }
+    ensures { λ p. ⌜ record { r = now (r .exit); p = p } ≡ compare-memory (now (r .entry)) (view-of (now (mem .entry))) op f ⌝ }
 {
     let z = op / 64 % 4;
     let s = operand::source(r, mem, 3, op % 8, z, f);
@@ -233,8 +221,7 @@ pub fn compare_memory(r: &mut [u32; 20], mem: &[u8], op: u32, f: Flow) -> Plan
 
 // The operand of the operation word's mode, alone.
 fn alone(which: u32, z: u32, r: &mut [u32; 20], mem: &[u8], op: u32, f: Flow) -> Plan
-    ensures { λ p. ⌜ p ≡ alone which z (now (r .entry)) (view-of (now (mem .entry))) op f .p ⌝ }
-    ensures { λ p. ⌜ now (r .exit) ≡ alone which z (now (r .entry)) (view-of (now (mem .entry))) op f .r ⌝ }
+    ensures { λ p. ⌜ record { r = now (r .exit); p = p } ≡ alone which z (now (r .entry)) (view-of (now (mem .entry))) op f ⌝ }
 {
     let d = operand::modify(r, mem, op / 8 % 8, op % 8, z, f);
     let q = d.q;
@@ -244,24 +231,21 @@ fn alone(which: u32, z: u32, r: &mut [u32; 20], mem: &[u8], op: u32, f: Flow) ->
 
 // NEG, NEGX, NOT, CLR, NBCD, TAS. TAS, a byte, has 3 for its size.
 pub fn unary(which: u32, r: &mut [u32; 20], mem: &[u8], op: u32, f: Flow) -> Plan
-    ensures { λ p. ⌜ p ≡ unary which (now (r .entry)) (view-of (now (mem .entry))) op f .p ⌝ }
-    ensures { λ p. ⌜ now (r .exit) ≡ unary which (now (r .entry)) (view-of (now (mem .entry))) op f .r ⌝ }
+    ensures { λ p. ⌜ record { r = now (r .exit); p = p } ≡ unary which (now (r .entry)) (view-of (now (mem .entry))) op f ⌝ }
 {
     alone(which, op / 64 % 4 % 3, r, mem, op, f)
 }
 
 // EXT: the operation word's mode is 0, a data register.
 pub fn extend(r: &mut [u32; 20], mem: &[u8], op: u32, f: Flow) -> Plan
-    ensures { λ p. ⌜ p ≡ extend (now (r .entry)) (view-of (now (mem .entry))) op f .p ⌝ }
-    ensures { λ p. ⌜ now (r .exit) ≡ extend (now (r .entry)) (view-of (now (mem .entry))) op f .r ⌝ }
+    ensures { λ p. ⌜ record { r = now (r .exit); p = p } ≡ extend (now (r .entry)) (view-of (now (mem .entry))) op f ⌝ }
 {
     alone(6, 1 + op / 64 % 2, r, mem, op, f)
 }
 
 // TST.
 pub fn test(r: &mut [u32; 20], mem: &[u8], op: u32, f: Flow) -> Plan
-    ensures { λ p. ⌜ p ≡ test (now (r .entry)) (view-of (now (mem .entry))) op f .p ⌝ }
-    ensures { λ p. ⌜ now (r .exit) ≡ test (now (r .entry)) (view-of (now (mem .entry))) op f .r ⌝ }
+    ensures { λ p. ⌜ record { r = now (r .exit); p = p } ≡ test (now (r .entry)) (view-of (now (mem .entry))) op f ⌝ }
 {
     let z = op / 64 % 4;
     let w = operand::source(r, mem, op / 8 % 8, op % 8, z, f);
@@ -271,8 +255,7 @@ pub fn test(r: &mut [u32; 20], mem: &[u8], op: u32, f: Flow) -> Plan
 
 // MULS, MULU <ea>,Dn.
 pub fn multiply(which: u32, r: &mut [u32; 20], mem: &[u8], op: u32, f: Flow) -> Plan
-    ensures { λ p. ⌜ p ≡ multiply which (now (r .entry)) (view-of (now (mem .entry))) op f .p ⌝ }
-    ensures { λ p. ⌜ now (r .exit) ≡ multiply which (now (r .entry)) (view-of (now (mem .entry))) op f .r ⌝ }
+    ensures { λ p. ⌜ record { r = now (r .exit); p = p } ≡ multiply which (now (r .entry)) (view-of (now (mem .entry))) op f ⌝ }
 {
     let n = op / 512 % 8;
     let w = operand::source(r, mem, op / 8 % 8, op % 8, 1, f);
@@ -283,8 +266,7 @@ pub fn multiply(which: u32, r: &mut [u32; 20], mem: &[u8], op: u32, f: Flow) -> 
 
 // DIVS, DIVU: a zero divisor traps, with the flags set and the source's step kept.
 pub fn divide(which: u32, r: &mut [u32; 20], mem: &[u8], op: u32, f: Flow) -> Plan
-    ensures { λ p. ⌜ p ≡ divide which (now (r .entry)) (view-of (now (mem .entry))) op f .p ⌝ }
-    ensures { λ p. ⌜ now (r .exit) ≡ divide which (now (r .entry)) (view-of (now (mem .entry))) op f .r ⌝ }
+    ensures { λ p. ⌜ record { r = now (r .exit); p = p } ≡ divide which (now (r .entry)) (view-of (now (mem .entry))) op f ⌝ }
 {
     let n = op / 512 % 8;
     let w = operand::source(r, mem, op / 8 % 8, op % 8, 1, f);

@@ -5,7 +5,8 @@ ghost use mathlib.Core.Path.{_≡_};
 ghost use Prim.Native.Nat.{ℕ, _+_, _*_, _%_, _/_, _<_, _≤_};
 ghost use Rattle.bits.specs.Bits.{minus};
 ghost use Rattle.bus.specs.Bus.{view-of};
-ghost use Rattle.operand.specs.Operands.{get, put};
+ghost use Rattle.operand.specs.Operands.{Modify, get, put};
+ghost use Rattle.plan.specs.Plans.{Done};
 ghost use Rattle.movement.specs.Movement.{move-size, move-operands, move-data, move-address, move-quick, load-address, push-address, exchange, exchange-data, exchange-address, exchange-both, swap, link, unlink, every-other-word, every-other, movep-to-register, movep-to-memory};
 use bus::Fetched;
 use bus::Flow;
@@ -32,8 +33,7 @@ fn move_size(op: u32) -> u32
 // the source's step before the destination's address. The source is read before the destination's step: MOVE.L A0,-(A0) stores the
 // first value.
 fn move_operands(r: &mut [u32; 20], mem: &[u8], op: u32, z: u32, f: Flow) -> Both
-    ensures { λ b. ⌜ b ≡ move-operands (now (r .entry)) (view-of (now (mem .entry))) op z f .b ⌝ }
-    ensures { λ b. ⌜ now (r .exit) ≡ move-operands (now (r .entry)) (view-of (now (mem .entry))) op z f .r ⌝ }
+    ensures { λ b. ⌜ record { r = now (r .exit); b = b } ≡ move-operands (now (r .entry)) (view-of (now (mem .entry))) op z f ⌝ }
 {
     let s = operand::target(r, mem, op / 8 % 8, op % 8, z, f);
     let sf = s.flow;
@@ -54,8 +54,7 @@ fn move_operands(r: &mut [u32; 20], mem: &[u8], op: u32, z: u32, f: Flow) -> Bot
 }
 
 pub fn move_data(r: &mut [u32; 20], mem: &[u8], op: u32, f: Flow) -> Plan
-    ensures { λ p. ⌜ p ≡ move-data (now (r .entry)) (view-of (now (mem .entry))) op f .p ⌝ }
-    ensures { λ p. ⌜ now (r .exit) ≡ move-data (now (r .entry)) (view-of (now (mem .entry))) op f .r ⌝ }
+    ensures { λ p. ⌜ record { r = now (r .exit); p = p } ≡ move-data (now (r .entry)) (view-of (now (mem .entry))) op f ⌝ }
 {
     let z = move_size(op);
     let b = move_operands(r, mem, op, z, f);
@@ -64,8 +63,7 @@ pub fn move_data(r: &mut [u32; 20], mem: &[u8], op: u32, f: Flow) -> Plan
 }
 
 pub fn move_address(r: &mut [u32; 20], mem: &[u8], op: u32, f: Flow) -> Plan
-    ensures { λ p. ⌜ p ≡ move-address (now (r .entry)) (view-of (now (mem .entry))) op f .p ⌝ }
-    ensures { λ p. ⌜ now (r .exit) ≡ move-address (now (r .entry)) (view-of (now (mem .entry))) op f .r ⌝ }
+    ensures { λ p. ⌜ record { r = now (r .exit); p = p } ≡ move-address (now (r .entry)) (view-of (now (mem .entry))) op f ⌝ }
 {
     let z = move_size(op);
     let w = operand::source(r, mem, op / 8 % 8, op % 8, z, f);
@@ -75,8 +73,7 @@ pub fn move_address(r: &mut [u32; 20], mem: &[u8], op: u32, f: Flow) -> Plan
 }
 
 pub fn move_quick(r: &mut [u32; 20], mem: &[u8], op: u32, f: Flow) -> Plan
-    ensures { λ p. ⌜ p ≡ move-quick (now (r .entry)) (view-of (now (mem .entry))) op f .p ⌝ }
-    ensures { λ p. ⌜ now (r .exit) ≡ move-quick (now (r .entry)) (view-of (now (mem .entry))) op f .r ⌝ }
+    ensures { λ p. ⌜ record { r = now (r .exit); p = p } ≡ move-quick (now (r .entry)) (view-of (now (mem .entry))) op f ⌝ }
 {
     let a = alu::moved(bits::sign_byte(op), f.sr, 2);
     operand::put(r, op / 512 % 8, a.value);
@@ -84,8 +81,7 @@ pub fn move_quick(r: &mut [u32; 20], mem: &[u8], op: u32, f: Flow) -> Plan
 }
 
 pub fn load_address(r: &mut [u32; 20], mem: &[u8], op: u32, f: Flow) -> Plan
-    ensures { λ p. ⌜ p ≡ load-address (now (r .entry)) (view-of (now (mem .entry))) op f .p ⌝ }
-    ensures { λ p. ⌜ now (r .exit) ≡ load-address (now (r .entry)) (view-of (now (mem .entry))) op f .r ⌝ }
+    ensures { λ p. ⌜ record { r = now (r .exit); p = p } ≡ load-address (now (r .entry)) (view-of (now (mem .entry))) op f ⌝ }
 {
     let q = operand::locate(r, mem, op / 8 % 8, op % 8, 2, f);
     let g = q.flow;
@@ -95,8 +91,7 @@ pub fn load_address(r: &mut [u32; 20], mem: &[u8], op: u32, f: Flow) -> Plan
 
 // The address is formed before A7 falls.
 pub fn push_address(r: &mut [u32; 20], mem: &[u8], op: u32, f: Flow) -> Plan
-    ensures { λ p. ⌜ p ≡ push-address (now (r .entry)) (view-of (now (mem .entry))) op f .p ⌝ }
-    ensures { λ p. ⌜ now (r .exit) ≡ push-address (now (r .entry)) (view-of (now (mem .entry))) op f .r ⌝ }
+    ensures { λ p. ⌜ record { r = now (r .exit); p = p } ≡ push-address (now (r .entry)) (view-of (now (mem .entry))) op f ⌝ }
 {
     let q = operand::locate(r, mem, op / 8 % 8, op % 8, 2, f);
     let g = q.flow;
@@ -105,8 +100,7 @@ pub fn push_address(r: &mut [u32; 20], mem: &[u8], op: u32, f: Flow) -> Plan
 
 // EXG of registers i and j.
 fn exchange(r: &mut [u32; 20], i: u32, j: u32, f: Flow) -> Plan
-    ensures { λ p. ⌜ p ≡ exchange (now (r .entry)) i j f .p ⌝ }
-    ensures { λ p. ⌜ now (r .exit) ≡ exchange (now (r .entry)) i j f .r ⌝ }
+    ensures { λ p. ⌜ record { r = now (r .exit); p = p } ≡ exchange (now (r .entry)) i j f ⌝ }
 {
     let x = operand::get(r, i);
     let y = operand::get(r, j);
@@ -116,29 +110,25 @@ fn exchange(r: &mut [u32; 20], i: u32, j: u32, f: Flow) -> Plan
 }
 
 pub fn exchange_data(r: &mut [u32; 20], mem: &[u8], op: u32, f: Flow) -> Plan
-    ensures { λ p. ⌜ p ≡ exchange-data (now (r .entry)) (view-of (now (mem .entry))) op f .p ⌝ }
-    ensures { λ p. ⌜ now (r .exit) ≡ exchange-data (now (r .entry)) (view-of (now (mem .entry))) op f .r ⌝ }
+    ensures { λ p. ⌜ record { r = now (r .exit); p = p } ≡ exchange-data (now (r .entry)) (view-of (now (mem .entry))) op f ⌝ }
 {
     exchange(r, op / 512 % 8, op % 8, f)
 }
 
 pub fn exchange_address(r: &mut [u32; 20], mem: &[u8], op: u32, f: Flow) -> Plan
-    ensures { λ p. ⌜ p ≡ exchange-address (now (r .entry)) (view-of (now (mem .entry))) op f .p ⌝ }
-    ensures { λ p. ⌜ now (r .exit) ≡ exchange-address (now (r .entry)) (view-of (now (mem .entry))) op f .r ⌝ }
+    ensures { λ p. ⌜ record { r = now (r .exit); p = p } ≡ exchange-address (now (r .entry)) (view-of (now (mem .entry))) op f ⌝ }
 {
     exchange(r, 8 + op / 512 % 8, 8 + op % 8, f)
 }
 
 pub fn exchange_both(r: &mut [u32; 20], mem: &[u8], op: u32, f: Flow) -> Plan
-    ensures { λ p. ⌜ p ≡ exchange-both (now (r .entry)) (view-of (now (mem .entry))) op f .p ⌝ }
-    ensures { λ p. ⌜ now (r .exit) ≡ exchange-both (now (r .entry)) (view-of (now (mem .entry))) op f .r ⌝ }
+    ensures { λ p. ⌜ record { r = now (r .exit); p = p } ≡ exchange-both (now (r .entry)) (view-of (now (mem .entry))) op f ⌝ }
 {
     exchange(r, op / 512 % 8, 8 + op % 8, f)
 }
 
 pub fn swap(r: &mut [u32; 20], mem: &[u8], op: u32, f: Flow) -> Plan
-    ensures { λ p. ⌜ p ≡ swap (now (r .entry)) (view-of (now (mem .entry))) op f .p ⌝ }
-    ensures { λ p. ⌜ now (r .exit) ≡ swap (now (r .entry)) (view-of (now (mem .entry))) op f .r ⌝ }
+    ensures { λ p. ⌜ record { r = now (r .exit); p = p } ≡ swap (now (r .entry)) (view-of (now (mem .entry))) op f ⌝ }
 {
     let a = alu::swapped(operand::get(r, op % 8), f.sr);
     operand::put(r, op % 8, a.value);
@@ -157,8 +147,7 @@ fn lowered(r: &mut [u32; 20]) -> u32
 
 // What is stored is An after A7 fell: LINK A7 stores A7 already lowered.
 pub fn link(r: &mut [u32; 20], mem: &[u8], op: u32, f: Flow) -> Plan
-    ensures { λ p. ⌜ p ≡ link (now (r .entry)) (view-of (now (mem .entry))) op f .p ⌝ }
-    ensures { λ p. ⌜ now (r .exit) ≡ link (now (r .entry)) (view-of (now (mem .entry))) op f .r ⌝ }
+    ensures { λ p. ⌜ record { r = now (r .exit); p = p } ≡ link (now (r .entry)) (view-of (now (mem .entry))) op f ⌝ }
 {
     let w = bus::next_word(mem, f);
     let g = w.flow;
@@ -171,8 +160,7 @@ pub fn link(r: &mut [u32; 20], mem: &[u8], op: u32, f: Flow) -> Plan
 
 // A7 is put before An: UNLK A7 leaves the long that was read.
 pub fn unlink(r: &mut [u32; 20], mem: &[u8], op: u32, f: Flow) -> Plan
-    ensures { λ p. ⌜ p ≡ unlink (now (r .entry)) (view-of (now (mem .entry))) op f .p ⌝ }
-    ensures { λ p. ⌜ now (r .exit) ≡ unlink (now (r .entry)) (view-of (now (mem .entry))) op f .r ⌝ }
+    ensures { λ p. ⌜ record { r = now (r .exit); p = p } ≡ unlink (now (r .entry)) (view-of (now (mem .entry))) op f ⌝ }
 {
     let a = operand::get(r, 8 + op % 8);
     let w = bus::read_long(mem, a, 17, f);
@@ -216,8 +204,7 @@ fn every_other(mem: &[u8], a: u32, z: u32, f: Flow) -> Fetched
 }
 
 pub fn movep_to_register(r: &mut [u32; 20], mem: &[u8], op: u32, f: Flow) -> Plan
-    ensures { λ p. ⌜ p ≡ movep-to-register (now (r .entry)) (view-of (now (mem .entry))) op f .p ⌝ }
-    ensures { λ p. ⌜ now (r .exit) ≡ movep-to-register (now (r .entry)) (view-of (now (mem .entry))) op f .r ⌝ }
+    ensures { λ p. ⌜ record { r = now (r .exit); p = p } ≡ movep-to-register (now (r .entry)) (view-of (now (mem .entry))) op f ⌝ }
 {
     let z = 1 + op / 64 % 2;
     let q = operand::locate(r, mem, 5, op % 8, z, f);
@@ -229,8 +216,7 @@ pub fn movep_to_register(r: &mut [u32; 20], mem: &[u8], op: u32, f: Flow) -> Pla
 }
 
 pub fn movep_to_memory(r: &mut [u32; 20], mem: &[u8], op: u32, f: Flow) -> Plan
-    ensures { λ p. ⌜ p ≡ movep-to-memory (now (r .entry)) (view-of (now (mem .entry))) op f .p ⌝ }
-    ensures { λ p. ⌜ now (r .exit) ≡ movep-to-memory (now (r .entry)) (view-of (now (mem .entry))) op f .r ⌝ }
+    ensures { λ p. ⌜ record { r = now (r .exit); p = p } ≡ movep-to-memory (now (r .entry)) (view-of (now (mem .entry))) op f ⌝ }
 {
     let z = 1 + op / 64 % 2;
     let q = operand::locate(r, mem, 5, op % 8, z, f);

@@ -3,7 +3,7 @@
 // Uses: bits, flags, bus, operand.  Source: [01 step 3], [01 step 6], [01 step 9], [ours].
 ghost use mathlib.Core.Path.{_≡_};
 ghost use Prim.Native.Nat.{ℕ, _+_, _*_, _%_, _/_, _<_, _≤_};
-ghost use Rattle.plan.specs.Plans.{flagged, jump, nothing, trapping, refusing, stopping, writing, finish, push, quick};
+ghost use Rattle.plan.specs.Plans.{Done, flagged, jump, nothing, trapping, refusing, stopping, writing, finish, push, quick};
 use bus::Flow;
 use flags::Flagged;
 use operand::Operand;
@@ -85,8 +85,7 @@ pub fn writing(z: u32, at: u32, v: u32, f: Flow) -> Plan
 
 // A result and its flags go to their places: into a register at once, and to memory as a plan.
 pub fn finish(r: &mut [u32; 20], q: Operand, z: u32, a: Flagged) -> Plan
-    ensures { λ p. ⌜ p ≡ finish (now (r .entry)) q z a .p ⌝ }
-    ensures { λ p. ⌜ now (r .exit) ≡ finish (now (r .entry)) q z a .r ⌝ }
+    ensures { λ p. ⌜ record { r = now (r .exit); p = p } ≡ finish (now (r .entry)) q z a ⌝ }
 {
     let kind = q.kind;
     let at = q.at;
@@ -102,8 +101,7 @@ pub fn finish(r: &mut [u32; 20], q: Operand, z: u32, a: Flagged) -> Plan
 
 // A long on the stack.
 pub fn push(r: &mut [u32; 20], v: u32, f: Flow) -> Plan
-    ensures { λ p. ⌜ p ≡ push (now (r .entry)) v f .p ⌝ }
-    ensures { λ p. ⌜ now (r .exit) ≡ push (now (r .entry)) v f .r ⌝ }
+    ensures { λ p. ⌜ record { r = now (r .exit); p = p } ≡ push (now (r .entry)) v f ⌝ }
 {
     let a = bits::minus(operand::get(r, 15), 4);
     operand::put(r, 15, a);

@@ -4,9 +4,8 @@
 ghost use mathlib.Core.Path.{_≡_};
 ghost use Prim.Native.Nat.{_+_, _%_};
 ghost use Rattle.bus.specs.Bus.{view-of};
-ghost use Rattle.operand.specs.Operands.{get, put, address};
-ghost use Rattle.plan.specs.Plans.{nothing};
-ghost use Rattle.system.specs.System.{logic, immediate-to-ccr-plan, immediate-to-sr-plan, move-from-sr, move-to-ccr, move-to-sr, return-exception, stop-plan, trap-plan, trap-overflow-plan, check-bounds};
+ghost use Rattle.plan.specs.Plans.{Done, nothing};
+ghost use Rattle.system.specs.System.{logic, immediate-to-ccr-plan, immediate-to-sr-plan, move-from-sr, move-to-ccr, move-to-sr, register-moved, return-exception, stop-plan, trap-plan, trap-overflow-plan, check-bounds};
 use bus::Flow;
 use flags::Flagged;
 use plan::Plan;
@@ -42,8 +41,7 @@ pub fn immediate_to_sr(which: u32, mem: &[u8], f: Flow) -> Plan
 
 // MOVE from SR. The flags stay as they are.
 pub fn move_from_sr(r: &mut [u32; 20], mem: &[u8], op: u32, f: Flow) -> Plan
-    ensures { λ p. ⌜ p ≡ move-from-sr (now (r .entry)) (view-of (now (mem .entry))) op f .p ⌝ }
-    ensures { λ p. ⌜ now (r .exit) ≡ move-from-sr (now (r .entry)) (view-of (now (mem .entry))) op f .r ⌝ }
+    ensures { λ p. ⌜ record { r = now (r .exit); p = p } ≡ move-from-sr (now (r .entry)) (view-of (now (mem .entry))) op f ⌝ }
 {
     let b = operand::modify(r, mem, op / 8 % 8, op % 8, 1, f);
     let q = b.q;
@@ -53,8 +51,7 @@ pub fn move_from_sr(r: &mut [u32; 20], mem: &[u8], op: u32, f: Flow) -> Plan
 
 // MOVE to CCR.
 pub fn move_to_ccr(r: &mut [u32; 20], mem: &[u8], op: u32, f: Flow) -> Plan
-    ensures { λ p. ⌜ p ≡ move-to-ccr (now (r .entry)) (view-of (now (mem .entry))) op f .p ⌝ }
-    ensures { λ p. ⌜ now (r .exit) ≡ move-to-ccr (now (r .entry)) (view-of (now (mem .entry))) op f .r ⌝ }
+    ensures { λ p. ⌜ record { r = now (r .exit); p = p } ≡ move-to-ccr (now (r .entry)) (view-of (now (mem .entry))) op f ⌝ }
 {
     let w = operand::source(r, mem, op / 8 % 8, op % 8, 1, f);
     let g = w.flow;
@@ -63,8 +60,7 @@ pub fn move_to_ccr(r: &mut [u32; 20], mem: &[u8], op: u32, f: Flow) -> Plan
 
 // MOVE to SR.
 pub fn move_to_sr(r: &mut [u32; 20], mem: &[u8], op: u32, f: Flow) -> Plan
-    ensures { λ p. ⌜ p ≡ move-to-sr (now (r .entry)) (view-of (now (mem .entry))) op f .p ⌝ }
-    ensures { λ p. ⌜ now (r .exit) ≡ move-to-sr (now (r .entry)) (view-of (now (mem .entry))) op f .r ⌝ }
+    ensures { λ p. ⌜ record { r = now (r .exit); p = p } ≡ move-to-sr (now (r .entry)) (view-of (now (mem .entry))) op f ⌝ }
 {
     let w = operand::source(r, mem, op / 8 % 8, op % 8, 1, f);
     let g = w.flow;
@@ -73,8 +69,7 @@ pub fn move_to_sr(r: &mut [u32; 20], mem: &[u8], op: u32, f: Flow) -> Plan
 
 // MOVE An,USP.
 pub fn move_to_usp(r: &mut [u32; 20], op: u32, f: Flow) -> Plan
-    ensures { λ p. ⌜ p ≡ nothing f ⌝ }
-    ensures { λ p. ⌜ now (r .exit) ≡ put (now (r .entry)) 16 (address (now (r .entry)) op) ⌝ }
+    ensures { λ p. ⌜ record { r = now (r .exit); p = p } ≡ register-moved 16 (8 + op % 8) (now (r .entry)) f ⌝ }
 {
     let a = operand::get(r, 8 + op % 8);
     operand::put(r, 16, a);
@@ -83,8 +78,7 @@ pub fn move_to_usp(r: &mut [u32; 20], op: u32, f: Flow) -> Plan
 
 // MOVE USP,An.
 pub fn move_from_usp(r: &mut [u32; 20], op: u32, f: Flow) -> Plan
-    ensures { λ p. ⌜ p ≡ nothing f ⌝ }
-    ensures { λ p. ⌜ now (r .exit) ≡ put (now (r .entry)) (8 + op % 8) (get (now (r .entry)) 16) ⌝ }
+    ensures { λ p. ⌜ record { r = now (r .exit); p = p } ≡ register-moved (8 + op % 8) 16 (now (r .entry)) f ⌝ }
 {
     let a = operand::get(r, 16);
     operand::put(r, 8 + op % 8, a);
@@ -100,8 +94,7 @@ pub fn reset_devices(f: Flow) -> Plan
 
 // RTE.
 pub fn return_exception(r: &mut [u32; 20], mem: &[u8], op: u32, f: Flow) -> Plan
-    ensures { λ p. ⌜ p ≡ return-exception (now (r .entry)) (view-of (now (mem .entry))) op f .p ⌝ }
-    ensures { λ p. ⌜ now (r .exit) ≡ return-exception (now (r .entry)) (view-of (now (mem .entry))) op f .r ⌝ }
+    ensures { λ p. ⌜ record { r = now (r .exit); p = p } ≡ return-exception (now (r .entry)) (view-of (now (mem .entry))) op f ⌝ }
 {
     let s = operand::source(r, mem, 3, 7, 1, f);
     let g = s.flow;
@@ -143,8 +136,7 @@ pub fn trap_overflow(f: Flow) -> Plan
 
 // CHK.
 pub fn check_bounds(r: &mut [u32; 20], mem: &[u8], op: u32, f: Flow) -> Plan
-    ensures { λ p. ⌜ p ≡ check-bounds (now (r .entry)) (view-of (now (mem .entry))) op f .p ⌝ }
-    ensures { λ p. ⌜ now (r .exit) ≡ check-bounds (now (r .entry)) (view-of (now (mem .entry))) op f .r ⌝ }
+    ensures { λ p. ⌜ record { r = now (r .exit); p = p } ≡ check-bounds (now (r .entry)) (view-of (now (mem .entry))) op f ⌝ }
 {
     let w = operand::source(r, mem, op / 8 % 8, op % 8, 1, f);
     let g = w.flow;

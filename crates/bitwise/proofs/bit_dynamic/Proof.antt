@@ -1,4 +1,4 @@
-use Rattle.bitwise.proofs.BitwiseLaws.{bit-dynamic-plan, bit-dynamic-registers}
+use Rattle.bitwise.proofs.BitwiseLaws.{bit-dynamic-is}
 use borrow.Author.Needs.{needs}
 use Rattle.bitwise.proofs.bit_dynamic.Statement.{statement}
 use Rattle.bitwise.proofs.bit_dynamic.Tie as tie
@@ -6,4 +6,4 @@ use Rattle.bitwise.proofs.bit_dynamic.Tie as tie
 pub bit-dynamic-spec : {M : Type 1} → statement M
 bit-dynamic-spec =
     tie.close (tie.spec
-    (λ c κs. search needs) (λ c κs. search needs) (λ c. (search bit-dynamic-plan, search bit-dynamic-registers)))
+    (λ c κs. search needs) (λ c κs. search needs) (λ c. search bit-dynamic-is))

@@ -1,4 +1,4 @@
-use Rattle.control.proofs.ControlLaws.{decrement-counted, decrement-counted-plan, decrement-ended, decrement-ended-plan}
+use Rattle.control.proofs.ControlLaws.{decrement-counted, decrement-ended}
 use borrow.Author.Needs.{needs}
 use Rattle.control.proofs.decrement_branch.Statement.{statement}
 use Rattle.control.proofs.decrement_branch.Tie as tie
@@ -6,6 +6,6 @@ use Rattle.control.proofs.decrement_branch.Tie as tie
 pub decrement-branch-spec : {M : Type 1} → statement M
 decrement-branch-spec =
     tie.close (tie.spec
-    (λ c κs. search needs) (λ c κs. search needs) (λ c κs. search needs) (λ c. (search decrement-ended-plan, search decrement-ended))
+    (λ c κs. search needs) (λ c κs. search needs) (λ c κs. search needs) (λ c. search decrement-ended)
     (λ c κs. search needs) (λ c κs. search needs) (λ c κs. search needs) (λ c κs. search needs) (λ c κs. search needs)
-    (λ c. (search decrement-counted-plan, search decrement-counted)))
+    (λ c. search decrement-counted))

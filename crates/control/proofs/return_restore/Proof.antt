@@ -1,4 +1,4 @@
-use Rattle.control.proofs.ControlLaws.{return-restore-plan, return-restore-registers}
+use Rattle.control.proofs.ControlLaws.{return-restore-is}
 use borrow.Author.Needs.{needs}
 use Rattle.control.proofs.return_restore.Statement.{statement}
 use Rattle.control.proofs.return_restore.Tie as tie
@@ -7,4 +7,4 @@ pub return-restore-spec : {M : Type 1} → statement M
 return-restore-spec =
     tie.close (tie.spec
     (λ c κs. search needs) (λ c κs. search needs) (λ c κs. search needs) (λ c κs. search needs) (λ c κs. search needs)
-    (λ c. (search return-restore-plan, search return-restore-registers)))
+    (λ c. search return-restore-is))

@@ -1,4 +1,4 @@
-use Rattle.control.proofs.ControlLaws.{set-condition-plan, set-condition-registers}
+use Rattle.control.proofs.ControlLaws.{set-condition-is}
 use borrow.Author.Needs.{needs}
 use Rattle.control.proofs.set_condition.Statement.{statement}
 use Rattle.control.proofs.set_condition.Tie as tie
@@ -7,4 +7,4 @@ pub set-condition-spec : {M : Type 1} → statement M
 set-condition-spec =
     tie.close (tie.spec
     (λ c κs. search needs) (λ c κs. search needs) (λ c κs. search needs) (λ c. search needs) (λ c κs. search needs)
-    (λ c. (search set-condition-plan, search set-condition-registers)))
+    (λ c. search set-condition-is))

@@ -1,4 +1,4 @@
-use Rattle.execute.proofs.DispatchLaws.{user-dispatch, user-dispatch-registers, user-refused, user-refused-registers}
+use Rattle.execute.proofs.DispatchLaws.{user-dispatch, user-refused}
 use borrow.Author.Needs.{needs}
 use Rattle.execute.proofs.as_user.Statement.{statement}
 use Rattle.execute.proofs.as_user.Tie as tie
@@ -6,5 +6,4 @@ use Rattle.execute.proofs.as_user.Tie as tie
 pub as-user-spec : {M : Type 1} → statement M
 as-user-spec =
     tie.close (tie.spec
-    (λ c κs. search needs) (λ c κs. search needs) (λ c. (search user-refused, search user-refused-registers)) (λ c κs. search needs)
-    (λ c. (search user-dispatch, search user-dispatch-registers)))
+    (λ c κs. search needs) (λ c κs. search needs) (λ c. search user-refused) (λ c κs. search needs) (λ c. search user-dispatch))

@@ -1,6 +1,6 @@
 use borrow.Author.Needs.{needs}
 use Rattle.execute.specs.Dispatch.{integer-kind}
-use Rattle.execute.proofs.DispatchLaws.{arm-plan, arm-registers, last-plan, last-registers}
+use Rattle.execute.proofs.DispatchLaws.{arm-is, last-is}
 use Rattle.execute.proofs.integer_kind.Statement.{statement}
 use Rattle.execute.proofs.integer_kind.Tie as tie
 
@@ -8,6 +8,13 @@ pub integer-kind-spec : {M : Type 1} → statement M
 unfolding integer-kind
 integer-kind-spec =
     tie.close (tie.spec
-    (λ c κs. search needs) (λ c κs. search needs) (λ c κs. search needs) (λ c κs. search needs) (λ c κs. search needs) (λ c κs. search needs) (λ c κs. search needs) (λ c κs. search needs) (λ c κs. search needs) (λ c κs. search needs) (λ c κs. search needs) (λ c κs. search needs) (λ c κs. search needs) (λ c κs. search needs) (λ c κs. search needs) (λ c κs. search needs) (λ c κs. search needs) (λ c κs. search needs) (λ c κs. search needs) (λ c κs. search needs) (λ c κs. search needs) (λ c κs. search needs) (λ c κs. search needs) (λ c κs. search needs) (λ c κs. search needs) (λ c κs. search needs) (λ c κs. search needs) (λ c κs. search needs)
-    (λ c. (search arm-plan, search arm-registers)) (λ c. (search arm-plan, search arm-registers)) (λ c. (search arm-plan, search arm-registers)) (λ c. (search arm-plan, search arm-registers)) (λ c. (search arm-plan, search arm-registers)) (λ c. (search arm-plan, search arm-registers)) (λ c. (search arm-plan, search arm-registers)) (λ c. (search arm-plan, search arm-registers)) (λ c. (search arm-plan, search arm-registers)) (λ c. (search arm-plan, search arm-registers)) (λ c. (search arm-plan, search arm-registers)) (λ c. (search arm-plan, search arm-registers)) (λ c. (search arm-plan, search arm-registers)) (λ c. (search arm-plan, search arm-registers)) (λ c. (search arm-plan, search arm-registers)) (λ c. (search arm-plan, search arm-registers)) (λ c. (search arm-plan, search arm-registers)) (λ c. (search arm-plan, search arm-registers)) (λ c. (search arm-plan, search arm-registers)) (λ c. (search arm-plan, search arm-registers)) (λ c. (search arm-plan, search arm-registers)) (λ c. (search arm-plan, search arm-registers)) (λ c. (search arm-plan, search arm-registers)) (λ c. (search arm-plan, search arm-registers)) (λ c. (search arm-plan, search arm-registers)) (λ c. (search arm-plan, search arm-registers)) (λ c. (search arm-plan, search arm-registers))
-    (λ c. (search (last-plan, c .before .before .match .rest), search (last-registers, c .before .before .match .rest))))
+    (λ c κs. search needs) (λ c κs. search needs) (λ c κs. search needs) (λ c κs. search needs) (λ c κs. search needs) (λ c κs. search needs)
+    (λ c κs. search needs) (λ c κs. search needs) (λ c κs. search needs) (λ c κs. search needs) (λ c κs. search needs) (λ c κs. search needs)
+    (λ c κs. search needs) (λ c κs. search needs) (λ c κs. search needs) (λ c κs. search needs) (λ c κs. search needs) (λ c κs. search needs)
+    (λ c κs. search needs) (λ c κs. search needs) (λ c κs. search needs) (λ c κs. search needs) (λ c κs. search needs) (λ c κs. search needs)
+    (λ c κs. search needs) (λ c κs. search needs) (λ c κs. search needs) (λ c κs. search needs)
+    (λ c. search arm-is) (λ c. search arm-is) (λ c. search arm-is) (λ c. search arm-is) (λ c. search arm-is) (λ c. search arm-is)
+    (λ c. search arm-is) (λ c. search arm-is) (λ c. search arm-is) (λ c. search arm-is) (λ c. search arm-is) (λ c. search arm-is)
+    (λ c. search arm-is) (λ c. search arm-is) (λ c. search arm-is) (λ c. search arm-is) (λ c. search arm-is) (λ c. search arm-is)
+    (λ c. search arm-is) (λ c. search arm-is) (λ c. search arm-is) (λ c. search arm-is) (λ c. search arm-is) (λ c. search arm-is)
+    (λ c. search arm-is) (λ c. search arm-is) (λ c. search arm-is) (λ c. search (last-is, c .before .before .match .rest)))

@@ -1,6 +1,6 @@
 use borrow.Author.Needs.{needs}
 use Rattle.execute.specs.Dispatch.{refused-kind}
-use Rattle.execute.proofs.DispatchLaws.{arm-plan, arm-registers, last-plan, last-registers}
+use Rattle.execute.proofs.DispatchLaws.{arm-is, kept, last-is}
 use Rattle.execute.proofs.refused_kind.Statement.{statement}
 use Rattle.execute.proofs.refused_kind.Tie as tie
 
@@ -9,5 +9,4 @@ unfolding refused-kind
 refused-kind-spec =
     tie.close (tie.spec
     (λ c κs. search needs) (λ c κs. search needs) (λ c κs. search needs)
-    (λ c. (search arm-plan, search arm-registers)) (λ c. (search arm-plan, search arm-registers))
-    (λ c. (search (last-plan, c .before .match .rest), search (last-registers, c .before .match .rest))))
+    (λ c. search (arm-is, kept)) (λ c. search (arm-is, kept)) (λ c. search (last-is, kept, c .before .match .rest)))

@@ -1,4 +1,4 @@
-use Rattle.integer.proofs.IntegerLaws.{compare-address-plan, compare-address-registers}
+use Rattle.integer.proofs.IntegerLaws.{compare-address-is}
 use borrow.Author.Needs.{needs}
 use Rattle.integer.proofs.compare_address.Statement.{statement}
 use Rattle.integer.proofs.compare_address.Tie as tie
@@ -7,4 +7,4 @@ pub compare-address-spec : {M : Type 1} → statement M
 compare-address-spec =
     tie.close (tie.spec
     (λ c. search needs) (λ c. search needs) (λ c κs. search needs) (λ c κs. search needs) (λ c κs. search needs) (λ c κs. search needs)
-    (λ c κs. search needs) (λ c. (search compare-address-plan, search compare-address-registers)))
+    (λ c κs. search needs) (λ c. search compare-address-is))

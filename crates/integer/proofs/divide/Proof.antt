@@ -1,4 +1,4 @@
-use Rattle.integer.proofs.IntegerLaws.{divide-plan, divide-registers, divide-trap-plan, divide-trap-registers}
+use Rattle.integer.proofs.IntegerLaws.{divide-is, divide-trap}
 use borrow.Author.Needs.{needs}
 use Rattle.integer.proofs.divide.Statement.{statement}
 use Rattle.integer.proofs.divide.Tie as tie
@@ -7,5 +7,5 @@ pub divide-spec : {M : Type 1} → statement M
 divide-spec =
     tie.close (tie.spec
     (λ c κs. search needs) (λ c κs. search needs) (λ c κs. search needs) (λ c κs. search needs) (λ c κs. search needs)
-    (λ c. (search divide-trap-plan, search divide-trap-registers)) (λ c κs. search needs) (λ c κs. search needs)
-    (λ c. (search divide-plan, search divide-registers)))
+    (λ c. search divide-trap) (λ c κs. search needs) (λ c κs. search needs)
+    (λ c. search divide-is))

@@ -1,4 +1,4 @@
-use Rattle.integer.proofs.IntegerLaws.{into-register-plan, into-register-registers}
+use Rattle.integer.proofs.IntegerLaws.{into-register-is}
 use borrow.Author.Needs.{needs}
 use Rattle.integer.proofs.into_register.Statement.{statement}
 use Rattle.integer.proofs.into_register.Tie as tie
@@ -6,4 +6,4 @@ use Rattle.integer.proofs.into_register.Tie as tie
 pub into-register-spec : {M : Type 1} → statement M
 into-register-spec =
     tie.close (tie.spec
-    (λ c κs. search needs) (λ c κs. search needs) (λ c. (search into-register-plan, search into-register-registers)))
+    (λ c κs. search needs) (λ c κs. search needs) (λ c. search into-register-is))

@@ -1,4 +1,4 @@
-use Rattle.movement.proofs.MovementLaws.{exchange-plan, exchange-registers}
+use Rattle.movement.proofs.MovementLaws.{exchange-is}
 use borrow.Author.Needs.{needs}
 use Rattle.movement.proofs.exchange.Statement.{statement}
 use Rattle.movement.proofs.exchange.Tie as tie
@@ -7,4 +7,4 @@ pub exchange-spec : {M : Type 1} → statement M
 exchange-spec =
     tie.close (tie.spec
     (λ c κs. search needs) (λ c κs. search needs) (λ c κs. search needs) (λ c κs. search needs) (λ c κs. search needs)
-    (λ c. (search exchange-plan, search exchange-registers)))
+    (λ c. search exchange-is))

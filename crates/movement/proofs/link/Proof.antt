@@ -1,4 +1,4 @@
-use Rattle.movement.proofs.MovementLaws.{link-plan, link-registers}
+use Rattle.movement.proofs.MovementLaws.{link-is}
 use borrow.Author.Needs.{needs}
 use Rattle.movement.proofs.link.Statement.{statement}
 use Rattle.movement.proofs.link.Tie as tie
@@ -7,4 +7,4 @@ pub link-spec : {M : Type 1} → statement M
 link-spec =
     tie.close (tie.spec
     (λ c κs. search needs) (λ c κs. search needs) (λ c. search needs) (λ c κs. search needs) (λ c. search needs) (λ c κs. search needs)
-    (λ c κs. search needs) (λ c κs. search needs) (λ c κs. search needs) (λ c κs. search needs) (λ c. (search link-plan, search link-registers)))
+    (λ c κs. search needs) (λ c κs. search needs) (λ c κs. search needs) (λ c κs. search needs) (λ c. search link-is))

@@ -1,4 +1,4 @@
-use Rattle.movement.proofs.MovementLaws.{move-data-plan, move-data-registers}
+use Rattle.movement.proofs.MovementLaws.{move-data-is}
 use borrow.Author.Needs.{needs}
 use Rattle.movement.proofs.move_data.Statement.{statement}
 use Rattle.movement.proofs.move_data.Tie as tie
@@ -7,4 +7,4 @@ pub move-data-spec : {M : Type 1} → statement M
 move-data-spec =
     tie.close (tie.spec
     (λ c κs. search needs) (λ c κs. search needs) (λ c κs. search needs) (λ c κs. search needs)
-    (λ c. (search move-data-plan, search move-data-registers)))
+    (λ c. search move-data-is))

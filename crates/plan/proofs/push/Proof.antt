@@ -1,4 +1,4 @@
-use Rattle.plan.proofs.PlanLaws.{push-plan, push-registers}
+use Rattle.plan.proofs.PlanLaws.{push-is}
 use borrow.Author.Needs.{needs}
 use Rattle.plan.proofs.push.Statement.{statement}
 use Rattle.plan.proofs.push.Tie as tie
@@ -6,4 +6,4 @@ use Rattle.plan.proofs.push.Tie as tie
 pub push-spec : {M : Type 1} → statement M
 push-spec =
     tie.close (tie.spec
-    (λ c κs. search needs) (λ c κs. search needs) (λ c κs. search needs) (λ c κs. search needs) (λ c. (search push-plan, search push-registers)))
+    (λ c κs. search needs) (λ c κs. search needs) (λ c κs. search needs) (λ c κs. search needs) (λ c. search push-is))

@@ -1,4 +1,4 @@
-use Rattle.system.proofs.SystemLaws.{register-moved}
+use Rattle.system.proofs.SystemLaws.{register-moved-is}
 use borrow.Author.Needs.{needs}
 use Rattle.system.proofs.move_to_usp.Statement.{statement}
 use Rattle.system.proofs.move_to_usp.Tie as tie
@@ -6,4 +6,4 @@ use Rattle.system.proofs.move_to_usp.Tie as tie
 pub move-to-usp-spec : {M : Type 1} → statement M
 move-to-usp-spec =
     tie.close (tie.spec
-    (λ c. search needs) (λ c κs. search needs) (λ c κs. search needs) (λ c κs. search needs) (λ c. (search needs, search register-moved)))
+    (λ c. search needs) (λ c κs. search needs) (λ c κs. search needs) (λ c κs. search needs) (λ c. search register-moved-is))
