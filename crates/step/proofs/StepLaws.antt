@@ -13,12 +13,13 @@ use Rattle.bus.specs.declared.Flow.{Flow}
 use Rattle.bus.specs.declared.Fetched.{Fetched}
 use Rattle.bus.specs.Bus.{View, view-of, next-word, room, put-sized}
 use Rattle.plan.specs.declared.Plan.{Plan}
+use Rattle.plan.specs.Plans.{Done}
 use Rattle.movem.specs.Movem.{block-room, block-put}
 use Rattle.bank.specs.Bank.{pc-of, sr-of, mode-of, tracing, bank, settle}
 use Rattle.exception.specs.Exceptions.{Stepped, fresh, supervisor-sr, exception, fault}
 use Rattle.execute.specs.Dispatch.{execute}
 use Rattle.step.specs.declared.Tried.{Tried}
-use Rattle.step.specs.Steps.{plan-with-flow, checked, attempt, commit, trap-of, take-trap, traced, both, carry-out, conclude, instruction, interrupt-sr, interrupt, one-step}
+use Rattle.step.specs.Steps.{plan-with-flow, checked, Attempt, attempt, commit, trap-of, take-trap, traced, both, carry-out, conclude, instruction, interrupt-sr, interrupt, one-step}
 
 -- a part of an outcome
 module _ (x y : Stepped) (e : x ≡ y) where
@@ -49,13 +50,10 @@ module _ (v : View) (p q : Plan) (g : Flow) where
   checked-block t u e d = cc
 
 module _ (r t : List ℕ) (v : View) (f : Flow) (w : Fetched) (p q : Plan) (e : w ≡ next-word v f) where
-  pub attempt-tried : p ≡ execute r v (w .value) (w .flow) .p → q ≡ checked v p → record { op = w .value; p = q } ≡ attempt r v f .t
+  pub attempt-is : record { r = t; p = p } ≡ execute r v (w .value) (w .flow) → q ≡ checked v p
+      → record { r = t; t = record { op = w .value; p = q } } ≡ attempt r v f
   unfolding attempt
-  attempt-tried d h = cc
-
-  pub attempt-registers : t ≡ execute r v (w .value) (w .flow) .r → t ≡ attempt r v f .r
-  unfolding attempt
-  attempt-registers d = cc
+  attempt-is d h = cc (ap (λ (o : Done). o .r) d, ap (λ (o : Done). o .p) d)
 
 module _ (m r o : List ℕ) (p : Plan) where
   pub commit-one : ltb (p .write) 3 ≡ true → o ≡ put-sized m (p .at) (p .write) (p .value) → o ≡ commit m r p
@@ -175,9 +173,10 @@ module _ (s m r : List ℕ) (t : Tried) where
   conclude-faults h = cc
 
 -- s₁ is the second loan of the slots s
-pub instruction-is : (s s₁ m r₀ r : List ℕ) (f : Flow) (t : Tried) → s₁ ≡ s → r₀ ≡ bank s → f ≡ fresh (pc-of s) (sr-of s) → t ≡ attempt r₀ (view-of m) f .t → r ≡ attempt r₀ (view-of m) f .r → conclude s₁ m r t ≡ instruction s m
+pub instruction-is : (s s₁ m r₀ r : List ℕ) (f : Flow) (t : Tried) → s₁ ≡ s → r₀ ≡ bank s → f ≡ fresh (pc-of s) (sr-of s)
+    → record { r = r; t = t } ≡ attempt r₀ (view-of m) f → conclude s₁ m r t ≡ instruction s m
 unfolding instruction
-instruction-is s s₁ m r₀ r f t e0 e1 e2 e3 e4 = cc
+instruction-is s s₁ m r₀ r f t e0 e1 e2 e3 = cc (ap (λ (a : Attempt). a .r) e3, ap (λ (a : Attempt). a .t) e3)
 
 module _ (s m : List ℕ) (level vector : ℕ) where
   pub interrupt-is : (sr : ℕ) → sr ≡ interrupt-sr (sr-of s) level → exception s m vector sr ≡ interrupt s m level vector

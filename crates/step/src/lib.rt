@@ -7,7 +7,7 @@ ghost use lib.ListN.{length};
 ghost use Rattle.bank.specs.Bank.{settle};
 ghost use Rattle.bus.specs.Bus.{view-of};
 ghost use Rattle.touch.specs.Touch.{LogOk, Noted};
-ghost use Rattle.step.specs.Steps.{plan-with-flow, checked, attempt, commit, trap-of, take-trap, traced, both, carry-out, conclude, instruction, interrupt-sr, interrupt, one-step};
+ghost use Rattle.step.specs.Steps.{plan-with-flow, checked, Attempt, attempt, commit, trap-of, take-trap, traced, both, carry-out, conclude, instruction, interrupt-sr, interrupt, one-step};
 use bus::Flow;
 use exception::Ended;
 use plan::Plan;
@@ -48,8 +48,7 @@ pub struct Tried {
 
 // An instruction, up to its writes: all that it sees are the registers, PC, SR and the view of memory.
 fn attempt(r: &mut [u32; 20], mem: &[u8], f: Flow) -> Tried
-    ensures { λ t. ⌜ t ≡ attempt (now (r .entry)) (view-of (now (mem .entry))) f .t ⌝ }
-    ensures { λ t. ⌜ now (r .exit) ≡ attempt (now (r .entry)) (view-of (now (mem .entry))) f .r ⌝ }
+    ensures { λ t. ⌜ record { r = now (r .exit); t = t } ≡ attempt (now (r .entry)) (view-of (now (mem .entry))) f ⌝ }
 {
     let w = bus::next_word(mem, f);
     let g = w.flow;
