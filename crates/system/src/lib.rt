@@ -92,7 +92,7 @@ pub fn reset_devices(f: Flow) -> Plan
     plan::nothing(f)
 }
 
-// RTE.
+// RTE. The jump comes before SR is written.
 pub fn return_exception(r: &mut [u32; 20], mem: &[u8], op: u32, f: Flow) -> Plan
     ensures { λ p. ⌜ record { r = now (r .exit); p = p } ≡ return-exception (now (r .entry)) (view-of (now (mem .entry))) op f ⌝ }
 {
@@ -100,7 +100,7 @@ pub fn return_exception(r: &mut [u32; 20], mem: &[u8], op: u32, f: Flow) -> Plan
     let g = s.f;
     let t = operand::source(r, mem, 3, 7, 2, g);
     let h = t.f;
-    plan::nothing(plan::jump(bus::with_sr(h, s.v), t.v))
+    plan::nothing(bus::with_sr(plan::jump(h, t.v), s.v))
 }
 
 // STOP. A word with S clear is refused, once it is read.
