@@ -125,7 +125,7 @@ pub fn no_operation(f: Flow) -> Plan
     plan::nothing(f)
 }
 
-// RTR. Of the word only the flags are taken.
+// RTR. Of the word only the flags are taken; the jump comes before SR is written.
 pub fn return_restore(r: &mut [u32; 20], mem: &[u8], op: u32, f: Flow) -> Plan
     ensures { λ p. ⌜ record { r = now (r .exit); p = p } ≡ return-restore (now (r .entry)) (view-of (now (mem .entry))) op f ⌝ }
 {
@@ -133,7 +133,7 @@ pub fn return_restore(r: &mut [u32; 20], mem: &[u8], op: u32, f: Flow) -> Plan
     let g = c.flow;
     let t = operand::source(r, mem, 3, 7, 2, g);
     let h = t.flow;
-    plan::nothing(plan::jump(plan::flagged(h, c.value), t.value))
+    plan::nothing(plan::flagged(plan::jump(h, t.value), c.value))
 }
 
 // RTS.

@@ -92,7 +92,7 @@ pub fn reset_devices(f: Flow) -> Plan
     plan::nothing(f)
 }
 
-// RTE.
+// RTE. The jump comes before SR is written.
 pub fn return_exception(r: &mut [u32; 20], mem: &[u8], op: u32, f: Flow) -> Plan
     ensures { λ p. ⌜ record { r = now (r .exit); p = p } ≡ return-exception (now (r .entry)) (view-of (now (mem .entry))) op f ⌝ }
 {
@@ -100,7 +100,7 @@ pub fn return_exception(r: &mut [u32; 20], mem: &[u8], op: u32, f: Flow) -> Plan
     let g = s.flow;
     let t = operand::source(r, mem, 3, 7, 2, g);
     let h = t.flow;
-    plan::nothing(plan::jump(bus::with_sr(h, s.value), t.value))
+    plan::nothing(bus::with_sr(plan::jump(h, t.value), s.value))
 }
 
 // STOP. A word with S clear is refused, once it is read.
