@@ -99,10 +99,12 @@ mirrored x = mirrored-byte x * 256 + mirrored-byte (x / 256)
 
 -- a plan's block as it is stored. That of -(An) goes upward too, from where An ended: no two of its parts meet, so that memory is the
 -- same as after 003's order  [003 B MOVEM] [01 Operands]
-unfoldable pub put-way : List ℕ → Plan → Way
-put-way r p =
+unfoldable pub put-way : Plan → Way
+put-way p =
     let z = 1 + p .z % 2 in
-    pick (eqb (p .z / 2) 3) (record { z = z; list = mirrored (p .v); start = get r (p .v / 65536); step = 2 * z }) (room-way p)
+    pick (eqb (p .z / 2) 3)
+    (record { z = z; list = mirrored (p .v); start = minus (p .at) (onesIn 16 (p .v) * 2 * z); step = 2 * z })
+    (room-way p)
 
 -- register i as MOVEM stores it: the one that -(An) lowered, `own`, by its first value  [01 Operands]
 unfoldable pub stored : List ℕ → ℕ → ℕ → ℕ → ℕ
@@ -126,4 +128,4 @@ put-one r p w t = record { x = put-part r p w (t .d) (t .x); d = next-spot w (t 
 
 -- memory after a block's writes  [003 B MOVEM] [003 B MOVEP]
 unfoldable pub block-put : List ℕ → List ℕ → Plan → List ℕ
-block-put m r p = let w = put-way r p in iter (put-one r p w) 16 (record { x = m; d = first-spot w (p .f) }) .x
+block-put m r p = let w = put-way p in iter (put-one r p w) 16 (record { x = m; d = first-spot w (p .f) }) .x

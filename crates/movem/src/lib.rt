@@ -240,16 +240,17 @@ fn mirrored(x: u32) -> u32
 }
 
 // A plan's block as it is stored, always upward: for -(An) from where An ended.
-fn put_way(r: &[u32; 20], p: Plan) -> Way
-    ensures { λ w. ⌜ w ≡ put-way (now (r .entry)) p ⌝ }
+fn put_way(p: Plan) -> Way
+    ensures { λ w. ⌜ w ≡ put-way p ⌝ }
 {
     let z = 1 + p.z % 2;
     let down = p.z / 2 == 3;
     if down {
+        let n = ones_of(p.v);
         return Way {
             z,
             list: mirrored(p.v),
-            start: operand::get(r, p.v / 65536),
+            start: bits::minus(p.at, n * 2 * z),
             step: 2 * z,
         };
     }
@@ -319,7 +320,7 @@ pub fn block_store(memory: &mut [u8], log: &mut [u64], n: usize, r: &[u32; 20], 
     ensures noted { λ m. ⌜ Noted (now (memory .entry)) (now (log .entry)) n 64 (now (memory .exit)) (now (log .exit)) m ⌝ }
 {
     let f = p.f;
-    let w = put_way(r, p);
+    let w = put_way(p);
     let mut d = first_spot(w, f);
     let mut m = n;
     let mut j: u32 = 0;
