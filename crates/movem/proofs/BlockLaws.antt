@@ -27,7 +27,8 @@ unfolding mirrored
 mirrored-is x a b e1 e2 = cc
 
 module _ (p : Plan) where
-  pub put-way-down : (l a n : ℕ) → eqb (p .z / 2) 3 ≡ true → (n ≡ onesIn 16 (p .v)) × (n ≤ 16) → l ≡ mirrored (p .v) → a ≡ minus (p .at) (n * 2 * (1 + p .z % 2))
+  pub put-way-down : (l a n : ℕ) → eqb (p .z / 2) 3 ≡ true → (n ≡ onesIn 16 (p .v)) × (n ≤ 16) → l ≡ mirrored (p .v)
+      → a ≡ minus (p .at) (n * 2 * (1 + p .z % 2))
       → record { z = 1 + p .z % 2; list = l; start = a; step = 2 * (1 + p .z % 2) } ≡ put-way p
   unfolding put-way
   put-way-down l a n t e0 e1 e2 = cc

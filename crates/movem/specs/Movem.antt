@@ -1,7 +1,7 @@
 -- Movem.antt - MOVEM as walks along a list of 16 bits, lowest bit first: registers loaded, room asked, registers stored; and MOVEP's store.
 -- Choices: nothing past a list is read, and an empty list touches no operand [01 Operands]; a block that cannot be written faults at the
 -- first of its writes in the manual's order, downward from A7 for -(An).
--- Laws: proofs/MovemLaws.antt, proofs/BlockLaws.antt.  Source: [003 B MOVEM], [003 B MOVEP], [01 step 6], [01 Operands].
+-- Laws: proofs/MovemLaws.antt, proofs/BlockLaws.antt, proofs/DownLaws.antt.  Source: [003 B MOVEM], [003 B MOVEP], [01 step 6], [01 Operands].
 use Prim.Native.Nat.{ℕ, _+_, _*_, _%_, _/_, _-_}
 use mathlib.Core.Bool.{Bool}
 use mathlib.Core.List.{List, [], _∷_}
@@ -98,7 +98,7 @@ unfoldable pub mirrored : ℕ → ℕ
 mirrored x = mirrored-byte x * 256 + mirrored-byte (x / 256)
 
 -- a plan's block as it is stored. That of -(An) goes upward too, from where An ended: no two of its parts meet, so that memory is the
--- same as after 003's order  [003 B MOVEM] [01 Operands]
+-- same as after 003's order, block-put-down below  [003 B MOVEM] [01 Operands]
 unfoldable pub put-way : Plan → Way
 put-way p =
     let z = 1 + p .z % 2 in
@@ -129,3 +129,14 @@ put-one r p w t = record { x = put-part r p w (t .d) (t .x); d = next-spot w (t 
 -- memory after a block's writes  [003 B MOVEM] [003 B MOVEP]
 unfoldable pub block-put : List ℕ → List ℕ → Plan → List ℕ
 block-put m r p = let w = put-way p in iter (put-one r p w) 16 (record { x = m; d = first-spot w (p .f) }) .x
+
+-- 003's own order for -(An), downward from A7 as the room was asked: bit k of the list is register 15 - k  [003 B MOVEM]
+unfoldable pub down-one : List ℕ → Plan → Way → Walk → Walk
+down-one r p w t =
+    let d = t .d in
+    let v = stored r (p .at) (p .v / 65536) (15 - d .k) in
+    record { x = pick (listed d) (put-sized (t .x) (d .a) (w .z) v) (t .x); d = next-spot w d (p .f) }
+
+-- memory after a block's writes in that order. Nothing runs it: block-put-is-down says that block-put leaves the same  [003 B MOVEM]
+unfoldable pub block-put-down : List ℕ → List ℕ → Plan → List ℕ
+block-put-down m r p = let w = room-way p in iter (down-one r p w) 16 (record { x = m; d = first-spot w (p .f) }) .x

@@ -1,5 +1,5 @@
 // lib.rt - MOVEM: lists of registers walked to load them, to ask for room and to store them; MOVEP's store is such a walk over bytes.
-// Means: specs/Movem.antt.  Laws: proofs/MovemLaws.antt, proofs/BlockLaws.antt.
+// Means: specs/Movem.antt.  Laws: proofs/MovemLaws.antt, proofs/BlockLaws.antt, proofs/DownLaws.antt.
 // Uses: bits, bus, operand, plan, store, touch.  Source: [003 B MOVEM], [003 B MOVEP], [01 step 6], [01 Operands].
 ghost use mathlib.Core.Path.{_≡_};
 ghost use Prim.Native.Nat.{ℕ, _+_, _*_, _%_, _/_, _<_, _≤_};
