@@ -9,7 +9,8 @@ use mathlib.Core.Bool.{Bool, true, false}
 use mathlib.Core.List.{List}
 use lib.ListN.{length}
 use lib.Dec.{leb, eqb}
-use Rattle.bits.specs.Bits.{pick, by-size}
+use lib.Count.{onesIn}
+use Rattle.bits.specs.Bits.{pick, by-size, minus}
 use Rattle.bits.proofs.BitsLaws.{Turns}
 use Rattle.bus.specs.Bus.{put-sized}
 use Rattle.operand.specs.Operands.{get}
@@ -25,15 +26,18 @@ pub mirrored-is : (x a b : ℕ) → a ≡ mirrored-byte x → b ≡ mirrored-byt
 unfolding mirrored
 mirrored-is x a b e1 e2 = cc
 
-module _ (r : List ℕ) (p : Plan) where
-  pub put-way-down : (l a : ℕ) → eqb (p .write / 2) 3 ≡ true → l ≡ mirrored (p .value) → a ≡ get r (p .value / 65536) → record { size = 1 + p .write % 2; list = l; start = a; step = 2 * (1 + p .write % 2) } ≡ put-way r p
+module _ (p : Plan) where
+  pub put-way-down : (l a n : ℕ) → eqb (p .write / 2) 3 ≡ true → (n ≡ onesIn 16 (p .value)) × (n ≤ 16) → l ≡ mirrored (p .value)
+      → a ≡ minus (p .at) (n * 2 * (1 + p .write % 2))
+      → record { size = 1 + p .write % 2; list = l; start = a; step = 2 * (1 + p .write % 2) } ≡ put-way p
   unfolding put-way
-  put-way-down l a t e1 e2 = cc
+  put-way-down l a n t e0 e1 e2 = cc
 
-  pub put-way-other : (w : Way) → eqb (p .write / 2) 3 ≡ false → w ≡ room-way p → w ≡ put-way r p
+  pub put-way-other : (w : Way) → eqb (p .write / 2) 3 ≡ false → w ≡ room-way p → w ≡ put-way p
   unfolding put-way
   put-way-other w t e = cc
 
+module _ (r : List ℕ) (p : Plan) where
   module _ (k v : ℕ) where
     pub part-of-bytes : leb 8 (p .write) ≡ true → v ≡ byte-of (p .value) (k % 16 + 2 - p .write % 2 * 2) → v ≡ part-of r p k
     unfolding part-of
@@ -107,7 +111,7 @@ module _ (r : List ℕ) (p : Plan) (w : Way) (m₀ l₀ : List ℕ) (n₀ : ℕ)
       noted = noted-then m₀ l₀ n₀ (j * 4) m l n 4 m₁ l₁ n₁ ((j + 1) * 4) (omega arith) (s .noted) a;
     }
 
-    pub storing-memory : 16 ≤ j → w ≡ put-way r p → d₀ ≡ first-spot w (p .flow) → m ≡ block-put m₀ r p
+    pub storing-memory : 16 ≤ j → w ≡ put-way p → d₀ ≡ first-spot w (p .flow) → m ≡ block-put m₀ r p
     unfolding block-put
     storing-memory h e q = let t = walk-end-list (put-one r p w) 16 j m₀ d₀ m d (s .turns) (first-spot w (p .flow)) q h in cc
 

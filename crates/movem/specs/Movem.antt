@@ -1,7 +1,7 @@
 -- Movem.antt - MOVEM as walks along a list of 16 bits, lowest bit first: registers loaded, room asked, registers stored; and MOVEP's store.
 -- Choices: nothing past a list is read, and an empty list touches no operand [01 Operands]; a block that cannot be written faults at the
 -- first of its writes in the manual's order, downward from A7 for -(An).
--- Laws: proofs/MovemLaws.antt, proofs/BlockLaws.antt.  Source: [003 B MOVEM], [003 B MOVEP], [01 step 6], [01 Operands].
+-- Laws: proofs/MovemLaws.antt, proofs/BlockLaws.antt, proofs/DownLaws.antt.  Source: [003 B MOVEM], [003 B MOVEP], [01 step 6], [01 Operands].
 use Prim.Native.Nat.{ℕ, _+_, _*_, _%_, _/_, _-_}
 use mathlib.Core.Bool.{Bool}
 use mathlib.Core.List.{List, [], _∷_}
@@ -98,11 +98,13 @@ unfoldable pub mirrored : ℕ → ℕ
 mirrored x = mirrored-byte x * 256 + mirrored-byte (x / 256)
 
 -- a plan's block as it is stored. That of -(An) goes upward too, from where An ended: no two of its parts meet, so that memory is the
--- same as after 003's order  [003 B MOVEM] [01 Operands]
-unfoldable pub put-way : List ℕ → Plan → Way
-put-way r p =
+-- same as after 003's order, block-put-down below  [003 B MOVEM] [01 Operands]
+unfoldable pub put-way : Plan → Way
+put-way p =
     let z = 1 + p .write % 2 in
-    pick (eqb (p .write / 2) 3) (record { size = z; list = mirrored (p .value); start = get r (p .value / 65536); step = 2 * z }) (room-way p)
+    pick (eqb (p .write / 2) 3)
+    (record { size = z; list = mirrored (p .value); start = minus (p .at) (onesIn 16 (p .value) * 2 * z); step = 2 * z })
+    (room-way p)
 
 -- register i as MOVEM stores it: the one that -(An) lowered, `own`, by its first value  [01 Operands]
 unfoldable pub stored : List ℕ → ℕ → ℕ → ℕ → ℕ
@@ -126,4 +128,15 @@ put-one r p w t = record { held = put-part r p w (t .spot) (t .held); spot = nex
 
 -- memory after a block's writes  [003 B MOVEM] [003 B MOVEP]
 unfoldable pub block-put : List ℕ → List ℕ → Plan → List ℕ
-block-put m r p = let w = put-way r p in iter (put-one r p w) 16 (record { held = m; spot = first-spot w (p .flow) }) .held
+block-put m r p = let w = put-way p in iter (put-one r p w) 16 (record { held = m; spot = first-spot w (p .flow) }) .held
+
+-- 003's own order for -(An), downward from A7 as the room was asked: bit k of the list is register 15 - k  [003 B MOVEM]
+unfoldable pub down-one : List ℕ → Plan → Way → Walk → Walk
+down-one r p w t =
+    let d = t .spot in
+    let v = stored r (p .at) (p .value / 65536) (15 - d .index) in
+    record { held = pick (listed d) (put-sized (t .held) (d .at) (w .size) v) (t .held); spot = next-spot w d (p .flow) }
+
+-- memory after a block's writes in that order. Nothing runs it: block-put-is-down says that block-put leaves the same  [003 B MOVEM]
+unfoldable pub block-put-down : List ℕ → List ℕ → Plan → List ℕ
+block-put-down m r p = let w = room-way p in iter (down-one r p w) 16 (record { held = m; spot = first-spot w (p .flow) }) .held

@@ -1,5 +1,5 @@
 // lib.rt - MOVEM: lists of registers walked to load them, to ask for room and to store them; MOVEP's store is such a walk over bytes.
-// Means: specs/Movem.antt.  Laws: proofs/MovemLaws.antt, proofs/BlockLaws.antt.
+// Means: specs/Movem.antt.  Laws: proofs/MovemLaws.antt, proofs/BlockLaws.antt, proofs/DownLaws.antt.
 // Uses: bits, bus, operand, plan, store, touch.  Source: [003 B MOVEM], [003 B MOVEP], [01 step 6], [01 Operands].
 ghost use mathlib.Core.Path.{_≡_};
 ghost use Prim.Native.Nat.{ℕ, _+_, _*_, _%_, _/_, _<_, _≤_};
@@ -240,16 +240,17 @@ fn mirrored(x: u32) -> u32
 }
 
 // A plan's block as it is stored, always upward: for -(An) from where An ended.
-fn put_way(r: &[u32; 20], p: Plan) -> Way
-    ensures { λ w. ⌜ w ≡ put-way (now (r .entry)) p ⌝ }
+fn put_way(p: Plan) -> Way
+    ensures { λ w. ⌜ w ≡ put-way p ⌝ }
 {
     let z = 1 + p.write % 2;
     let down = p.write / 2 == 3;
     if down {
+        let n = ones_of(p.value);
         return Way {
             size: z,
             list: mirrored(p.value),
-            start: operand::get(r, p.value / 65536),
+            start: bits::minus(p.at, n * 2 * z),
             step: 2 * z,
         };
     }
@@ -319,7 +320,7 @@ pub fn block_store(memory: &mut [u8], log: &mut [u64], n: usize, r: &[u32; 20], 
     ensures noted { λ m. ⌜ Noted (now (memory .entry)) (now (log .entry)) n 64 (now (memory .exit)) (now (log .exit)) m ⌝ }
 {
     let f = p.flow;
-    let w = put_way(r, p);
+    let w = put_way(p);
     let mut d = first_spot(w, f);
     let mut m = n;
     let mut j: u32 = 0;

@@ -1,3 +1,4 @@
+use Rattle.movem.proofs.MovemLaws.{fall-fits}
 use Rattle.movem.proofs.BlockLaws.{put-way-down, put-way-other}
 use borrow.Author.Needs.{needs}
 use Rattle.movem.proofs.put_way.Statement.{statement}
@@ -6,5 +7,5 @@ use Rattle.movem.proofs.put_way.Tie as tie
 pub put-way-spec : {M : Type 1} → statement M
 put-way-spec =
     tie.close (tie.spec
-    (λ c. search needs) (λ c κs. search needs) (λ c κs. search needs) (λ c. search needs) (λ c. search put-way-down)
-    (λ c κs. search needs) (λ c. search put-way-other))
+    (λ c. search needs) (λ c κs. search needs) (λ c κs. search needs) (λ c. search needs) (λ c. search fall-fits) (λ c κs. search needs)
+    (λ c. search needs) (λ c. search put-way-down) (λ c κs. search needs) (λ c. search put-way-other))
