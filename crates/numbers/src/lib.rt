@@ -18,7 +18,7 @@ pub fn put_small(journal: &mut [u8], at: usize, v: u32) -> usize
     ensures next { λ r. ⌜ r ≡ at + length (number-bytes v) ⌝ }
     ensures bytes { λ _. ⌜ now (journal .exit) ≡ written (now (journal .entry)) at (number-bytes v) ⌝ }
 {
-    journal[at] = (v % 128) as u8;
+    journal[at] = v as u8;
     at + 1
 }
 

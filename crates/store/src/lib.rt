@@ -1,13 +1,15 @@
 // lib.rt - the puts of a step: what stood at each place is noted in the touch log, then the new bytes are put.
 // Means: put-byte, put-word, put-long, put-sized of bus; Noted of touch.  Laws: proofs/StoreLaws.antt.
 // Uses: touch, bus, bits, record, numbers.  Source: [01 The journal], [01 step 6].
+use touch::above;
+use touch::write_above;
 use touch::write_byte;
 ghost use mathlib.Core.Path.{_≡_};
-ghost use Prim.Native.Nat.{_+_, _≤_};
+ghost use Prim.Native.Nat.{_+_, _≤_, _<_};
 ghost use lib.ListN.{length};
 ghost use Rattle.bits.specs.Bits.{by-size};
 ghost use Rattle.bus.specs.Bus.{put-byte, put-word, put-long, put-sized};
-ghost use Rattle.touch.specs.Touch.{LogOk, Noted};
+ghost use Rattle.touch.specs.Touch.{AllBelow, LogOk, Noted};
 
 // Each returns how many entries the log has then. Outside memory nothing is noted and nothing put.
 pub fn store_byte(memory: &mut [u8], log: &mut [u64], n: usize, a: u32, v: u32) -> usize
@@ -31,11 +33,29 @@ pub fn store_word(memory: &mut [u8], log: &mut [u64], n: usize, a: u32, v: u32) 
     store_byte(memory, log, m, std::num::wrapping_add_u32(a, 1), v)
 }
 
+// A word at place p, which is inside memory and above all that are noted.
+fn word_above(memory: &mut [u8], log: &mut [u64], n: usize, p: u32, v: u32)
+    requires { ⌜ (p + 1 < length (now memory)) × (n + 2 ≤ length (now log)) × LogOk (now memory) (now log) n × AllBelow (now log) n p ⌝ }
+    ensures memory { λ _. ⌜ now (memory .exit) ≡ put-word (now (memory .entry)) p v ⌝ }
+    ensures noted { λ _. ⌜ Noted (now (memory .entry)) (now (log .entry)) n 2 (now (memory .exit)) (now (log .exit)) (n + 2) ⌝ }
+    ensures below { λ _. ⌜ AllBelow (now (log .exit)) (n + 2) (p + 2) ⌝ }
+{
+    write_above(memory, log, n, p, (v / 256 % 256) as u8);
+    write_above(memory, log, n + 1, p + 1, (v % 256) as u8);
+}
+
+// A long inside memory and above all that are noted needs no look at the log for each byte.
 pub fn store_long(memory: &mut [u8], log: &mut [u64], n: usize, a: u32, v: u32) -> usize
     requires { ⌜ LogOk (now memory) (now log) n × (n + 4 ≤ length (now log)) ⌝ }
     ensures memory { λ _. ⌜ now (memory .exit) ≡ put-long (now (memory .entry)) a v ⌝ }
     ensures noted { λ r. ⌜ Noted (now (memory .entry)) (now (log .entry)) n 4 (now (memory .exit)) (now (log .exit)) r ⌝ }
 {
+    let p = a % 16777216;
+    if ((p as usize) + 3 < memory.len()) & above(log, n, p) {
+        word_above(memory, log, n, p, v / 65536);
+        word_above(memory, log, n + 2, p + 2, v);
+        return n + 4;
+    }
     let m = store_word(memory, log, n, a, v / 65536);
     store_word(memory, log, m, std::num::wrapping_add_u32(a, 2), v)
 }

@@ -1,7 +1,6 @@
 -- put_small: a number below 128 is one byte.
 use mathlib.Core.Path.{ap}
 use mathlib.Core.List.{[]}
-use Prim.Native.Nat.{_%_}
 use native.Mathlib.Omega.{arith}
 use lib.ListN.{length}
 use denote.Ref.{now}
@@ -14,7 +13,7 @@ slice-write-journal : tie.Need-slice-write-journal
 slice-write-journal c = omega (arith, ap length (number-bytes-one (c .args .v) (c .pre .0)))
 
 returns : tie.Need-returns
-returns c = put-each (now (c .args .journal)) (c .args .at) (c .args .v) (c .args .v % 128) [] (number-bytes-one (c .args .v) (c .pre .0)) (c .pre .1)
+returns c = put-each (now (c .args .journal)) (c .args .at) (c .args .v) (c .args .v) [] (number-bytes-one (c .args .v) (c .pre .0)) (c .pre .1)
 
 pub put-small-spec : {M : Type 1} → statement M
 put-small-spec =

@@ -1,24 +1,72 @@
--- store_long: two noted puts, one after the other.
+-- store_long: two noted puts, one after the other: of words that are above all that are noted, or of any.
+use Prim.Native.Nat.{_+_, _<_}
+use native.Mathlib.Omega.{arith}
 use denote.Ref.{now}
-use Rattle.store.proofs.StoreLaws.{stored-long}
+use lib.ListN.{length}
+use lib.Dec.{ltb}
 use borrow.Author.Needs.{needs}
+use borrow.Author.Tests.{ltb-true}
+use Rattle.bits.proofs.BitsLaws.{and-left, and-right}
+use Rattle.bus.specs.Bus.{pins}
+use Rattle.touch.specs.Touch.{AllBelow}
+use Rattle.touch.proofs.TouchLaws.{log-order}
+use Rattle.store.proofs.StoreLaws.{stored-long, stored-long-above}
 use Rattle.store.proofs.store_long.Statement.{statement}
 use Rattle.store.proofs.store_long.Tie as tie
 
+-- what is known where the place is inside memory and above all that are noted
+module _ (c : tie.Then1) where
+  abbrev s : tie.Start
+  s = c .before .before .before .before .before
+
+  test : (pins (s .args .a) + 3 < length (now (s .args .memory))) × AllBelow (now (s .args .log)) (s .args .n) (pins (s .args .a))
+  test =
+      let a = ltb (pins (s .args .a) + 3) (length (now (s .args .memory))) in
+      let b = c .before .above in
+      (ltb-true _ _ (and-left a (b .result) (c .if1 .taken)), b .ensures (and-right a (b .result) (c .if1 .taken)))
+
+word-above-requires : tie.Need-word-above-requires
+word-above-requires c κs =
+    let b = c .before .before in
+    (omega (arith, test b .0), omega arith, s b .pre .0, test b .1)
+
+word-above-requires-2 : tie.Need-word-above-requires-2
+word-above-requires-2 c κs =
+    let b = c .before .before .before .before .before .before .before .before .before in
+    let g = c .before .before .before .before .before .before .word-above .ensures .1 in
+    (omega (arith, test b .0, g .0 .same), omega (arith, g .0 .long), g .0 .ok, g .1)
+
 returns : tie.Need-returns
 returns c =
-    let s = c .before .before .before .before .before .before .before .before .before .before .before .before .before .before .before .before .before in
+    let g = c .before .before .before .before .before .before .before .before .before .before .before .word-above in
+    let h = c .before .before .before .before .word-above2 in
+    stored-long-above _ _ _ _ _ _ _ _ _ (g .ensures) (h .ensures)
+
+returns-2 : tie.Need-returns-2
+returns-2 c =
     let g = c .before .before .before .before .before .before .before .before .before .before .before .before .store-word in
+    let w = c .before .before .before .before .before .wrapping-add-u32 in
     let h = c .before .before .before .before .store-word2 in
-    stored-long (now (s .args .memory)) (now (s .args .log)) (s .args .n) (s .args .a) (s .args .v) (g .last .0) (g .last .1 .0) (g .result) (c .before .before .before .before .before .wrapping-add-u32 .result) (h .last .0) (h .last .1 .0) (h .result) (g .ensures) (c .before .before .before .before .before .wrapping-add-u32 .ensures) (h .ensures)
+    stored-long _ _ _ _ _ _ _ (g .result) (w .result) _ _ (h .result) (g .ensures) (w .ensures) (h .ensures)
 
 pub store-long-spec : {M : Type 1} → statement M
 store-long-spec =
     tie.close
     (tie.spec
+    (λ c. search needs)
+    (λ c. search needs)
+    (λ c κs. search (needs, log-order))
+    word-above-requires
+    (λ c. search needs)
+    (λ c. search needs)
+    word-above-requires-2
+    (λ c. search needs)
+    (λ c. search needs)
+    (λ c. search needs)
+    returns
     (λ c κs. search needs)
     (λ c κs. search needs)
     (λ c κs. search needs)
     (λ c. search needs)
     (λ c. search needs)
-    returns)
+    returns-2)

@@ -1,5 +1,4 @@
 -- store_word: two noted puts, one after the other.
-use denote.Ref.{now}
 use Rattle.store.proofs.StoreLaws.{stored-word}
 use borrow.Author.Needs.{needs}
 use Rattle.store.proofs.store_word.Statement.{statement}
@@ -7,10 +6,10 @@ use Rattle.store.proofs.store_word.Tie as tie
 
 returns : tie.Need-returns
 returns c =
-    let s = c .before .before .before .before .before .before .before .before .before .before .before .before .before .before .before .before .before in
     let g = c .before .before .before .before .before .before .before .before .before .before .before .before .store-byte in
+    let w = c .before .before .before .before .before .wrapping-add-u32 in
     let h = c .before .before .before .before .store-byte2 in
-    stored-word (now (s .args .memory)) (now (s .args .log)) (s .args .n) (s .args .a) (s .args .v) (g .last .0) (g .last .1 .0) (g .result) (c .before .before .before .before .before .wrapping-add-u32 .result) (h .last .0) (h .last .1 .0) (h .result) (g .ensures) (c .before .before .before .before .before .wrapping-add-u32 .ensures) (h .ensures)
+    stored-word _ _ _ _ _ _ _ (g .result) (w .result) _ _ (h .result) (g .ensures) (w .ensures) (h .ensures)
 
 pub store-word-spec : {M : Type 1} → statement M
 store-word-spec =

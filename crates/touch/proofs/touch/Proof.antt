@@ -1,14 +1,13 @@
 -- touch: the place is last, is there, or is put before the next; a law for each.
 use Prim.Native.Nat.{ℕ, _+_, _*_, _^_, _<_}
 use native.Mathlib.Omega.{arith}
-use mathlib.Core.Path.{_≡_, ap, sym, _∙_}
-use mathlib.Core.List.{List, _∷_, _++_}
+use mathlib.Core.Path.{ap, sym, _∙_}
+use mathlib.Core.List.{List}
 use denote.Ref.{now}
-use lib.Seq.{slice-empty}
-use Rattle.record.specs.Change.{changes, between}
-use Rattle.touch.proofs.RoomLaws.{changes-of-room, changes-of-last}
+use Rattle.record.specs.Change.{changes}
+use Rattle.touch.proofs.RoomLaws.{changes-of-room}
 use Rattle.record.proofs.ChangeLaws.{unpacked}
-use Rattle.touch.proofs.TouchLaws.{touch-new, touch-old}
+use Rattle.touch.proofs.TouchLaws.{touch-new, touch-old, touch-last}
 use borrow.Author.Needs.{needs}
 use Rattle.touch.proofs.touch.Statement.{statement}
 use Rattle.touch.proofs.touch.Tie as tie
@@ -16,16 +15,8 @@ use Rattle.touch.proofs.touch.Tie as tie
 returns : tie.Need-returns
 returns c =
     let s = c .before .before .before .before in
-    let l = now (s .args .log) in
-    let n = s .args .n in
-    let a = s .args .a in
-    let o = s .args .old in
-    let i = c .before .find-place .result in
-    let found = c .before .find-place .ensures in
-    let at-n : i ≡ n = c .if1 .taken in
-    let new = touch-new a o l n i (found .within) (omega arith) (found .below) (λ q. absurd (omega arith)) in
-    let new′ : _ ≡ changes l n ++ record { place = a; old = o } ∷ between n n l = new ∙ ap (λ (k : ℕ). changes l k ++ record { place = a; old = o } ∷ between k n l) at-n in
-    (omega arith, changes-of-last l n (a * 2 ^ 32 + o) (s .pre .0) ∙ rw (unpacked a o (s .fits .old .fits)) (sym (new′ ∙ rw (slice-empty n l))))
+    let below = rw (c .if1 .taken) at (c .before .find-place .ensures .below) in
+    (omega arith, touch-last (now (s .args .log)) (s .args .n) (s .args .a) (s .args .old) (s .pre .0) (s .fits .old .fits) below)
 
 returns-2 : tie.Need-returns-2
 returns-2 c =
