@@ -7,6 +7,7 @@ ghost use Rattle.bus.specs.Bus.{view-of};
 ghost use Rattle.plan.specs.Plans.{Done};
 ghost use Rattle.execute.specs.Dispatch.{refused-plan, refused-kind, movement-kind, integer-kind, logical-kind, control-kind, system-kind, dispatch, as-user, execute};
 use bus::Flow;
+use decode::kinds;
 use plan::Plan;
 
 // A refused instruction: the saved PC is its own address.
@@ -191,11 +192,23 @@ fn as_user(k: u32, r: &mut [u32; 20], mem: &[u8], op: u32, f: Flow) -> Plan
     dispatch(k, r, mem, op, f)
 }
 
-// The operation word alone decides illegal and privileged.
+// The operation word alone decides illegal and privileged. The commonest kinds, none of them privileged, are asked first, for speed.
 pub fn execute(r: &mut [u32; 20], mem: &[u8], op: u32, f: Flow) -> Plan
     ensures { λ p. ⌜ record { r = now (r .exit); p = p } ≡ execute (now (r .entry)) (view-of (now (mem .entry))) op f ⌝ }
 {
     let k = decode::kind_of(op);
+    let branches = (k == kinds::BCC) | (k == kinds::BRA);
+    if branches {
+        return control::branch(mem, op, f);
+    }
+    let counts = k == kinds::DBCC;
+    if counts {
+        return control::decrement_branch(r, mem, op, f);
+    }
+    let moves = k == kinds::MOVE;
+    if moves {
+        return movement::move_data(r, mem, op, f);
+    }
     let user = f.sr / 8192 % 2 == 0;
     if user {
         return as_user(k, r, mem, op, f);
