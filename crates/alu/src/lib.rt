@@ -56,20 +56,20 @@ fn difference(a: u32, b: u32, x: bool, z: u32) -> Outcome
 }
 
 fn concluded(o: Outcome) -> flags::Flagged
-    ensures { λ r. ⌜ (r ≡ concluded o) × (r .v ≡ o .r) × (r .c < 32) ⌝ }
+    ensures { λ r. ⌜ (r ≡ concluded o) × (r .value ≡ o .r) × (r .ccr < 32) ⌝ }
 {
     flags::Flagged {
-        v: o.r,
-        c: flags::flags(o.c, o.n, o.r == 0, o.v, o.c),
+        value: o.r,
+        ccr: flags::flags(o.c, o.n, o.r == 0, o.v, o.c),
     }
 }
 
 fn continued(o: Outcome, old: u32) -> flags::Flagged
-    ensures { λ r. ⌜ (r ≡ continued o old) × (r .v ≡ o .r) × (r .c < 32) ⌝ }
+    ensures { λ r. ⌜ (r ≡ continued o old) × (r .value ≡ o .r) × (r .ccr < 32) ⌝ }
 {
     flags::Flagged {
-        v: o.r,
-        c: flags::flags(o.c, o.n, flags::z_of(old) & (o.r == 0), o.v, o.c),
+        value: o.r,
+        ccr: flags::flags(o.c, o.n, flags::z_of(old) & (o.r == 0), o.v, o.c),
     }
 }
 
@@ -115,8 +115,8 @@ pub fn compare(a: u32, b: u32, old: u32, z: u32) -> flags::Flagged
 {
     let o = difference(a, b, false, z);
     flags::Flagged {
-        v: bits::cut(a as u64, z),
-        c: flags::flags(flags::x_of(old), o.n, o.r == 0, o.v, o.c),
+        value: bits::cut(a as u64, z),
+        ccr: flags::flags(flags::x_of(old), o.n, o.r == 0, o.v, o.c),
     }
 }
 
@@ -127,8 +127,8 @@ pub fn moved(v: u32, old: u32, z: u32) -> flags::Flagged
     let r = bits::cut(v as u64, z);
     let n = bits::half_of(z) <= r;
     flags::Flagged {
-        v: r,
-        c: flags::flags(flags::x_of(old), n, r == 0, false, false),
+        value: r,
+        ccr: flags::flags(flags::x_of(old), n, r == 0, false, false),
     }
 }
 
@@ -206,8 +206,8 @@ pub fn bit_operation(v: u32, n: u32, k: u32, old: u32, z: u32) -> flags::Flagged
     let w = bit_weight(n, z);
     let clear = v & w == 0;
     flags::Flagged {
-        v: bits::cut(bit_changed(v, w, k) as u64, z),
-        c: flags::flags(
+        value: bits::cut(bit_changed(v, w, k) as u64, z),
+        ccr: flags::flags(
             flags::x_of(old),
             flags::n_of(old),
             clear,
@@ -223,21 +223,21 @@ pub fn tas(v: u32, old: u32) -> flags::Flagged
     let before = moved(v, old, 0);
     let set = bit_operation(v, 7, 3, old, 0);
     flags::Flagged {
-        v: set.v,
-        c: before.c,
+        value: set.value,
+        ccr: before.ccr,
     }
 }
 
 // CHK of the low words: the value is 1 where it traps, else 0.
 pub fn check(d: u32, bound: u32, old: u32) -> flags::Flagged
-    ensures { λ r. ⌜ (r ≡ check d bound old) × (r .v ≤ 1) × (r .c < 32) ⌝ }
+    ensures { λ r. ⌜ (r ≡ check d bound old) × (r .value ≤ 1) × (r .ccr < 32) ⌝ }
 {
     let below = 32768 <= d % 65536;
     let above = (bound % 65536 + 32768) % 65536 < (d % 65536 + 32768) % 65536;
     let n = below | (!above & flags::n_of(old));
     flags::Flagged {
-        v: bits::bit(below | above),
-        c: flags::flags(
+        value: bits::bit(below | above),
+        ccr: flags::flags(
             flags::x_of(old),
             n,
             flags::z_of(old),

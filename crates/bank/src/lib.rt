@@ -142,9 +142,9 @@ fn slots_of(
 pub fn settle(r: &mut [u32; 20], s: &[u32; 20], p: Plan)
     ensures { λ _. ⌜ now (r .exit) ≡ settle (now (s .entry)) (now (r .entry)) p ⌝ }
 {
-    let f = p.f;
+    let f = p.flow;
     let old = s[18];
-    let mode = mode_after(old, p.event);
+    let mode = mode_after(old, p.vector);
     let sup = supervisor(old);
     if sup {
         let n = slots_of(

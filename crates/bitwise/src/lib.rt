@@ -35,7 +35,7 @@ fn shift_place(
     let left = op / 256 % 2 == 1;
     let d = operand::modify(r, mem, mode, op % 8, z, f);
     let q = d.q;
-    let a = shift::shift(k, left, d.v, n, z, f.sr);
+    let a = shift::shift(k, left, d.value, n, z, f.sr);
     plan::finish(r, q, z, a)
 }
 
@@ -73,11 +73,11 @@ fn bit_place(n: u32, r: &mut [u32; 20], mem: &[u8], op: u32, f: Flow) -> Plan
     let k = op / 64 % 4;
     let d = operand::modify(r, mem, op / 8 % 8, op % 8, z, f);
     let q = d.q;
-    let a = alu::bit_operation(d.v, n, k, f.sr, z);
+    let a = alu::bit_operation(d.value, n, k, f.sr, z);
     let asked = k == 0;
     if asked {
-        let g = q.f;
-        return plan::nothing(plan::flagged(g, a.c));
+        let g = q.flow;
+        return plan::nothing(plan::flagged(g, a.ccr));
     }
     plan::finish(r, q, z, a)
 }
@@ -97,6 +97,6 @@ pub fn bit_static(r: &mut [u32; 20], mem: &[u8], op: u32, f: Flow) -> Plan
     ensures { λ p. ⌜ now (r .exit) ≡ bit-static (now (r .entry)) (view-of (now (mem .entry))) op f .r ⌝ }
 {
     let w = bus::next_word(mem, f);
-    let g = w.f;
-    bit_place(w.v, r, mem, op, g)
+    let g = w.flow;
+    bit_place(w.value, r, mem, op, g)
 }

@@ -10,10 +10,10 @@ use lib.Dec.{ltb, eqb}
 use Rattle.bits.specs.Bits.{plus, by-size}
 use Rattle.bus.specs.declared.Flow.{Flow}
 use Rattle.bus.specs.declared.Fetched.{Fetched}
-use Rattle.bus.specs.Bus.{View, view-of, pins, failed, moved, read-byte, read-word, read-long, read-sized, room, next-word, next-long, put-byte, put-word, put-long, put-sized}
+use Rattle.bus.specs.Bus.{View, view-of, pins, failed, with-pc, read-byte, read-word, read-long, read-sized, room, next-word, next-long, put-byte, put-word, put-long, put-sized}
 
 abbrev fetched : ℕ → Flow → Fetched
-fetched v f = record { v = v; f = f }
+fetched v f = record { value = v; flow = f }
 
 -- the two leaves
 module _ (m : List ℕ) (a k : ℕ) (f : Flow) where
@@ -47,29 +47,29 @@ module _ (v : View) (a k : ℕ) (f : Flow) where
   unfolding read-word
   word-when-failed c = cc
 
-  pub long-is : (h l : Fetched) (b : ℕ) → h ≡ read-word v a k f → b ≡ plus a 2 → l ≡ read-word v b k (h .f) → fetched (h .v * 65536 + l .v) (l .f) ≡ read-long v a k f
+  pub long-is : (h l : Fetched) (b : ℕ) → h ≡ read-word v a k f → b ≡ plus a 2 → l ≡ read-word v b k (h .flow) → fetched (h .value * 65536 + l .value) (l .flow) ≡ read-long v a k f
   unfolding read-long
   long-is h l b p e q = cc
 
 module _ (v : View) (a z : ℕ) (f : Flow) where
-  pub room-byte : (r : Fetched) → eqb z 0 ≡ true → r ≡ read-byte v a 1 f → r .f ≡ room v a z f
+  pub room-byte : (r : Fetched) → eqb z 0 ≡ true → r ≡ read-byte v a 1 f → r .flow ≡ room v a z f
   unfolding room read-sized by-size
   room-byte r t e = cc
 
-  pub room-word : (r : Fetched) → eqb z 0 ≡ false → eqb z 1 ≡ true → r ≡ read-word v a 1 f → r .f ≡ room v a z f
+  pub room-word : (r : Fetched) → eqb z 0 ≡ false → eqb z 1 ≡ true → r ≡ read-word v a 1 f → r .flow ≡ room v a z f
   unfolding room read-sized by-size
   room-word r t u e = cc
 
-  pub room-long : (r : Fetched) → eqb z 0 ≡ false → eqb z 1 ≡ false → r ≡ read-long v a 1 f → r .f ≡ room v a z f
+  pub room-long : (r : Fetched) → eqb z 0 ≡ false → eqb z 1 ≡ false → r ≡ read-long v a 1 f → r .flow ≡ room v a z f
   unfolding room read-sized by-size
   room-long r t u e = cc
 
 module _ (v : View) (f : Flow) where
-  pub next-word-is : (w : Fetched) (b : ℕ) (g : Flow) → w ≡ read-word v (f .pc) 18 f → b ≡ plus (f .pc) 2 → g ≡ moved (w .f) b → fetched (w .v) g ≡ next-word v f
+  pub next-word-is : (w : Fetched) (b : ℕ) (g : Flow) → w ≡ read-word v (f .pc) 18 f → b ≡ plus (f .pc) 2 → g ≡ with-pc (w .flow) b → fetched (w .value) g ≡ next-word v f
   unfolding next-word
   next-word-is w b g p e q = cc
 
-  pub next-long-is : (h l : Fetched) → h ≡ next-word v f → l ≡ next-word v (h .f) → fetched (h .v * 65536 + l .v) (l .f) ≡ next-long v f
+  pub next-long-is : (h l : Fetched) → h ≡ next-word v f → l ≡ next-word v (h .flow) → fetched (h .value * 65536 + l .value) (l .flow) ≡ next-long v f
   unfolding next-long
   next-long-is h l p q = cc
 

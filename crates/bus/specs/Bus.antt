@@ -36,55 +36,55 @@ abbrev pub failed : Flow → ℕ → ℕ → ℕ → Flow
 failed f v p k = record { pc = f .pc; sr = f .sr; bad = p % 16777216 * 256 + (k % 32 + f .sr / 8192 % 2 * 4) * 4 + v % 4 }
 
 -- the flow with another PC, with another SR  [ours]
-abbrev pub moved : Flow → ℕ → Flow
-moved f p = record { pc = p; sr = f .sr; bad = f .bad }
+abbrev pub with-pc : Flow → ℕ → Flow
+with-pc f p = record { pc = p; sr = f .sr; bad = f .bad }
 
 abbrev pub with-sr : Flow → ℕ → Flow
 with-sr f sr = record { pc = f .pc; sr = sr; bad = f .bad }
 
 -- after a fault nothing more is read: the first one stays  [01 step 7]
 abbrev pub unless-failed : Flow → Fetched → Fetched
-unless-failed f w = pick (eqb (f .bad) 0) w (record { v = 0; f = f })
+unless-failed f w = pick (eqb (f .bad) 0) w (record { value = 0; flow = f })
 
 -- a byte outside memory is a bus error  [01 step 6]
 unfoldable pub read-byte : View → ℕ → ℕ → Flow → Fetched
 read-byte v a k f =
     unless-failed f
-    (pick (v .byte-ok (pins a)) (record { v = v .byte (pins a); f = f }) (record { v = 0; f = failed f 2 (pins a) k }))
+    (pick (v .byte-ok (pins a)) (record { value = v .byte (pins a); flow = f }) (record { value = 0; flow = failed f 2 (pins a) k }))
 
 -- a word at an odd address is an address error, one outside memory a bus error; odd is asked first  [01 step 6]
 unfoldable pub read-word : View → ℕ → ℕ → Flow → Fetched
 read-word v a k f =
     unless-failed f
     (pick (eqb (pins a % 2) 1)
-    (record { v = 0; f = failed f 3 (pins a) k })
+    (record { value = 0; flow = failed f 3 (pins a) k })
     (pick (v .word-ok (pins a))
-    (record { v = v .word (pins a); f = f })
-    (record { v = 0; f = failed f 2 (pins a) k })))
+    (record { value = v .word (pins a); flow = f })
+    (record { value = 0; flow = failed f 2 (pins a) k })))
 
 -- a long is two words, the upper first  [01 step 6]
 unfoldable pub read-long : View → ℕ → ℕ → Flow → Fetched
 read-long v a k f =
     let h = read-word v a k f in
-    let l = read-word v (plus a 2) k (h .f) in
-    record { v = h .v * 65536 + l .v; f = l .f }
+    let l = read-word v (plus a 2) k (h .flow) in
+    record { value = h .value * 65536 + l .value; flow = l .flow }
 
 unfoldable pub read-sized : View → ℕ → ℕ → ℕ → Flow → Fetched
 read-sized v a z k f = by-size z (read-byte v a k f) (read-word v a k f) (read-long v a k f)
 
 -- room for a write: the same tests, and the fault is a write's  [01 step 6] [01 step 7]
 unfoldable pub room : View → ℕ → ℕ → Flow → Flow
-room v a z f = read-sized v a z 1 f .f
+room v a z f = read-sized v a z 1 f .flow
 
 -- the next word of the instruction: a program read  [01 step 7]
 unfoldable pub next-word : View → Flow → Fetched
-next-word v f = let w = read-word v (f .pc) 18 f in record { v = w .v; f = moved (w .f) (plus (f .pc) 2) }
+next-word v f = let w = read-word v (f .pc) 18 f in record { value = w .value; flow = with-pc (w .flow) (plus (f .pc) 2) }
 
 unfoldable pub next-long : View → Flow → Fetched
 next-long v f =
     let h = next-word v f in
-    let l = next-word v (h .f) in
-    record { v = h .v * 65536 + l .v; f = l .f }
+    let l = next-word v (h .flow) in
+    record { value = h .value * 65536 + l .value; flow = l .flow }
 
 -- outside memory nothing is put  [ours]
 abbrev pub put-byte : List ℕ → ℕ → ℕ → List ℕ

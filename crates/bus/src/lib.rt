@@ -4,7 +4,7 @@
 ghost use mathlib.Core.Path.{_≡_};
 ghost use Prim.Native.Nat.{ℕ, _+_, _*_, _%_, _/_, _<_, _≤_};
 ghost use lib.ListN.{set};
-ghost use Rattle.bus.specs.Bus.{view-of, failed, moved, with-sr, read-byte, read-word, read-long, read-sized, room, next-word, next-long, put-byte, put-word, put-long, put-sized};
+ghost use Rattle.bus.specs.Bus.{view-of, failed, with-pc, with-sr, read-byte, read-word, read-long, read-sized, room, next-word, next-long, put-byte, put-word, put-long, put-sized};
 
 // Where an instruction stands: the next word's address, the status register, and the fault so far, 0 if none: the 24-bit address
 // of the access times 256, the information word times 4, and the vector, 2 or 3.
@@ -16,8 +16,8 @@ pub struct Flow {
 
 // A number that was read (0 after a fault), and where the instruction then stands.
 pub struct Fetched {
-    pub v: u32,
-    pub f: Flow,
+    pub value: u32,
+    pub flow: Flow,
 }
 
 // A fault: k is 17 for a data read, 18 for a program read, 1 for a data write; the supervisor's function codes are 4 more.
@@ -31,8 +31,8 @@ pub fn failed(f: Flow, vec: u32, at: u32, k: u32) -> Flow
     }
 }
 
-pub fn moved(f: Flow, pc: u32) -> Flow
-    ensures { λ r. ⌜ r ≡ moved f pc ⌝ }
+pub fn with_pc(f: Flow, pc: u32) -> Flow
+    ensures { λ r. ⌜ r ≡ with-pc f pc ⌝ }
 {
     Flow {
         pc,
@@ -53,7 +53,7 @@ pub fn with_sr(f: Flow, sr: u32) -> Flow
 
 pub fn read_byte(mem: &[u8], a: u32, k: u32, f: Flow) -> Fetched
     ensures { λ r. ⌜ r ≡ read-byte (view-of (now (mem .entry))) a k f ⌝ }
-    ensures { λ r. ⌜ r .v < 256 ⌝ }
+    ensures { λ r. ⌜ r .value < 256 ⌝ }
 {
     let p = a % 16777216;
     let i = p as usize;
@@ -62,24 +62,24 @@ pub fn read_byte(mem: &[u8], a: u32, k: u32, f: Flow) -> Fetched
         let inside = i < mem.len();
         if inside {
             Fetched {
-                v: bits::wide(mem[i]),
-                f,
+                value: bits::wide(mem[i]),
+                flow: f,
             }
         } else {
             Fetched {
-                v: 0,
-                f: failed(f, 2, p, k),
+                value: 0,
+                flow: failed(f, 2, p, k),
             }
         }
     } else {
-        Fetched { v: 0, f }
+        Fetched { value: 0, flow: f }
     }
 }
 
 // Odd is asked before outside.
 pub fn read_word(mem: &[u8], a: u32, k: u32, f: Flow) -> Fetched
     ensures { λ r. ⌜ r ≡ read-word (view-of (now (mem .entry))) a k f ⌝ }
-    ensures { λ r. ⌜ r .v < 65536 ⌝ }
+    ensures { λ r. ⌜ r .value < 65536 ⌝ }
 {
     let p = a % 16777216;
     let i = p as usize;
@@ -88,24 +88,24 @@ pub fn read_word(mem: &[u8], a: u32, k: u32, f: Flow) -> Fetched
     if clean {
         if odd {
             return Fetched {
-                v: 0,
-                f: failed(f, 3, p, k),
+                value: 0,
+                flow: failed(f, 3, p, k),
             };
         }
         let inside = i + 1 < mem.len();
         if inside {
             Fetched {
-                v: bits::wide(mem[i]) * 256 + bits::wide(mem[i + 1]),
-                f,
+                value: bits::wide(mem[i]) * 256 + bits::wide(mem[i + 1]),
+                flow: f,
             }
         } else {
             Fetched {
-                v: 0,
-                f: failed(f, 2, p, k),
+                value: 0,
+                flow: failed(f, 2, p, k),
             }
         }
     } else {
-        Fetched { v: 0, f }
+        Fetched { value: 0, flow: f }
     }
 }
 
@@ -114,12 +114,12 @@ pub fn read_long(mem: &[u8], a: u32, k: u32, f: Flow) -> Fetched
     ensures { λ r. ⌜ r ≡ read-long (view-of (now (mem .entry))) a k f ⌝ }
 {
     let h = read_word(mem, a, k, f);
-    let hf = h.f;
+    let hf = h.flow;
     let l = read_word(mem, std::num::wrapping_add_u32(a, 2), k, hf);
-    let lf = l.f;
+    let lf = l.flow;
     Fetched {
-        v: h.v * 65536 + l.v,
-        f: lf,
+        value: h.value * 65536 + l.value,
+        flow: lf,
     }
 }
 
@@ -146,38 +146,38 @@ pub fn room(mem: &[u8], a: u32, z: u32, f: Flow) -> Flow
     let word = z == 1;
     if byte {
         let w = read_byte(mem, a, 1, f);
-        return w.f;
+        return w.flow;
     }
     if word {
         let w = read_word(mem, a, 1, f);
-        return w.f;
+        return w.flow;
     }
     let w = read_long(mem, a, 1, f);
-    w.f
+    w.flow
 }
 
 // The next word of the instruction.
 pub fn next_word(mem: &[u8], f: Flow) -> Fetched
     ensures { λ r. ⌜ r ≡ next-word (view-of (now (mem .entry))) f ⌝ }
-    ensures { λ r. ⌜ r .v < 65536 ⌝ }
+    ensures { λ r. ⌜ r .value < 65536 ⌝ }
 {
     let pc = f.pc;
     let w = read_word(mem, pc, 18, f);
-    let g = w.f;
-    let h = moved(g, std::num::wrapping_add_u32(pc, 2));
-    Fetched { v: w.v, f: h }
+    let g = w.flow;
+    let h = with_pc(g, std::num::wrapping_add_u32(pc, 2));
+    Fetched { value: w.value, flow: h }
 }
 
 pub fn next_long(mem: &[u8], f: Flow) -> Fetched
     ensures { λ r. ⌜ r ≡ next-long (view-of (now (mem .entry))) f ⌝ }
 {
     let h = next_word(mem, f);
-    let hf = h.f;
+    let hf = h.flow;
     let l = next_word(mem, hf);
-    let lf = l.f;
+    let lf = l.flow;
     Fetched {
-        v: h.v * 65536 + l.v,
-        f: lf,
+        value: h.value * 65536 + l.value,
+        flow: lf,
     }
 }
 

@@ -17,15 +17,15 @@ fn displacement(mem: &[u8], op: u32, f: Flow) -> Fetched
     let none = op % 256 == 0;
     if none {
         let w = bus::next_word(mem, f);
-        let g = w.f;
+        let g = w.flow;
         return Fetched {
-            v: bits::sign_word(w.v),
-            f: g,
+            value: bits::sign_word(w.value),
+            flow: g,
         };
     }
     Fetched {
-        v: bits::sign_byte(op),
-        f,
+        value: bits::sign_byte(op),
+        flow: f,
     }
 }
 
@@ -43,9 +43,9 @@ pub fn branch(mem: &[u8], op: u32, f: Flow) -> Plan
     ensures { λ p. ⌜ p ≡ branch-plan (view-of (now (mem .entry))) op f ⌝ }
 {
     let w = displacement(mem, op, f);
-    let g = w.f;
+    let g = w.flow;
     let taken = flags::condition(f.sr, op / 256);
-    jump_when(taken, g, std::num::wrapping_add_u32(f.pc, w.v))
+    jump_when(taken, g, std::num::wrapping_add_u32(f.pc, w.value))
 }
 
 // BSR.
@@ -54,8 +54,8 @@ pub fn branch_subroutine(r: &mut [u32; 20], mem: &[u8], op: u32, f: Flow) -> Pla
     ensures { λ p. ⌜ now (r .exit) ≡ branch-subroutine (now (r .entry)) (view-of (now (mem .entry))) op f .r ⌝ }
 {
     let w = displacement(mem, op, f);
-    let g = w.f;
-    let h = plan::jump(g, std::num::wrapping_add_u32(f.pc, w.v));
+    let g = w.flow;
+    let h = plan::jump(g, std::num::wrapping_add_u32(f.pc, w.value));
     plan::push(r, g.pc, h)
 }
 
@@ -72,7 +72,7 @@ pub fn decrement_branch(r: &mut [u32; 20], mem: &[u8], op: u32, f: Flow) -> Plan
     ensures { λ p. ⌜ now (r .exit) ≡ decrement-branch (now (r .entry)) (view-of (now (mem .entry))) op f .r ⌝ }
 {
     let w = bus::next_word(mem, f);
-    let g = w.f;
+    let g = w.flow;
     let ended = flags::condition(f.sr, op / 256);
     if ended {
         return plan::nothing(g);
@@ -83,7 +83,7 @@ pub fn decrement_branch(r: &mut [u32; 20], mem: &[u8], op: u32, f: Flow) -> Plan
     jump_when(
         !spent,
         g,
-        std::num::wrapping_add_u32(f.pc, bits::sign_word(w.v)),
+        std::num::wrapping_add_u32(f.pc, bits::sign_word(w.value)),
     )
 }
 
@@ -96,8 +96,8 @@ pub fn set_condition(r: &mut [u32; 20], mem: &[u8], op: u32, f: Flow) -> Plan
     let q = b.q;
     let holds = flags::condition(f.sr, op / 256);
     let a = Flagged {
-        v: bits::bit(holds) * 255,
-        c: f.sr,
+        value: bits::bit(holds) * 255,
+        ccr: f.sr,
     };
     plan::finish(r, q, 0, a)
 }
@@ -107,7 +107,7 @@ pub fn jump_to(r: &[u32; 20], mem: &[u8], op: u32, f: Flow) -> Plan
     ensures { λ p. ⌜ p ≡ jump-plan (now (r .entry)) (view-of (now (mem .entry))) op f ⌝ }
 {
     let q = operand::locate(r, mem, op / 8 % 8, op % 8, 2, f);
-    let g = q.f;
+    let g = q.flow;
     plan::nothing(plan::jump(g, q.at))
 }
 
@@ -117,7 +117,7 @@ pub fn jump_subroutine(r: &mut [u32; 20], mem: &[u8], op: u32, f: Flow) -> Plan
     ensures { λ p. ⌜ now (r .exit) ≡ jump-subroutine (now (r .entry)) (view-of (now (mem .entry))) op f .r ⌝ }
 {
     let q = operand::locate(r, mem, op / 8 % 8, op % 8, 2, f);
-    let g = q.f;
+    let g = q.flow;
     let h = plan::jump(g, q.at);
     plan::push(r, g.pc, h)
 }
@@ -135,10 +135,10 @@ pub fn return_restore(r: &mut [u32; 20], mem: &[u8], op: u32, f: Flow) -> Plan
     ensures { λ p. ⌜ now (r .exit) ≡ return-restore (now (r .entry)) (view-of (now (mem .entry))) op f .r ⌝ }
 {
     let c = operand::source(r, mem, 3, 7, 1, f);
-    let g = c.f;
+    let g = c.flow;
     let t = operand::source(r, mem, 3, 7, 2, g);
-    let h = t.f;
-    plan::nothing(plan::jump(plan::flagged(h, c.v), t.v))
+    let h = t.flow;
+    plan::nothing(plan::jump(plan::flagged(h, c.value), t.value))
 }
 
 // RTS.
@@ -147,6 +147,6 @@ pub fn return_subroutine(r: &mut [u32; 20], mem: &[u8], op: u32, f: Flow) -> Pla
     ensures { λ p. ⌜ now (r .exit) ≡ return-subroutine (now (r .entry)) (view-of (now (mem .entry))) op f .r ⌝ }
 {
     let t = operand::source(r, mem, 3, 7, 2, f);
-    let g = t.f;
-    plan::nothing(plan::jump(g, t.v))
+    let g = t.flow;
+    plan::nothing(plan::jump(g, t.value))
 }

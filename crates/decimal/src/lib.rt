@@ -10,7 +10,7 @@ fn decimal_result(v: u32, carry: bool, old: u32) -> flags::Flagged
 {
     let zero = flags::z_of(old) & (v == 0);
     let c = flags::flags(carry, flags::n_of(old), zero, flags::v_of(old), carry);
-    flags::Flagged { v, c }
+    flags::Flagged { value: v, ccr: c }
 }
 
 // Byte a plus byte b plus X of the flags before.

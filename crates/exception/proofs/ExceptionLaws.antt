@@ -44,9 +44,9 @@ unfolding fault-access
 fault-access-is m n o a bad b e1 e2 e3 = cc
 
 -- the vector's long fits, as every slot does
-pub enter-is : (s : List ℕ) (v : View) (a vec sr : ℕ) (e : Flow) (w : Fetched) → e ≡ fresh 0 0 → w ≡ read-long v (vec % 256 * 4) 17 e → w .v < 2 ^ 32 → set (set (set (set s 16 a) 17 (w .v)) 18 sr) 19 0 ≡ enter s v a vec sr
+pub enter-is : (s : List ℕ) (v : View) (a vec sr : ℕ) (e : Flow) (w : Fetched) → e ≡ fresh 0 0 → w ≡ read-long v (vec % 256 * 4) 17 e → w .value < 2 ^ 32 → set (set (set (set s 16 a) 17 (w .value)) 18 sr) 19 0 ≡ enter s v a vec sr
 unfolding enter
-enter-is s v a vec sr e w e1 e2 h = let l : w .v ≡ long (w .v) = omega arith in cc
+enter-is s v a vec sr e w e1 e2 h = let l : w .value ≡ long (w .value) = omega arith in cc
 
 -- an exception: b says whether its frame can be written
 module _ (s m : List ℕ) (vec sr a : ℕ) (b : Bool) (e1 : a ≡ minus (ssp-of s) 6) (e2 : b ≡ small-room (view-of m) a) where

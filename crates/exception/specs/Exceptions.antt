@@ -31,7 +31,7 @@ halted s m = record { s = set s 19 2; m = m; event = 257 }
 
 -- SSP at the frame, PC from vector number times 4, running  [01 step 1]
 unfoldable pub enter : List ℕ → View → ℕ → ℕ → ℕ → List ℕ
-enter s v a vec sr = set (set (set (set s 16 a) 17 (long (read-long v (vec % 256 * 4) 17 (fresh 0 0) .v))) 18 sr) 19 0
+enter s v a vec sr = set (set (set (set s 16 a) 17 (long (read-long v (vec % 256 * 4) 17 (fresh 0 0) .value))) 18 sr) 19 0
 
 -- whether the six bytes of a frame can be written: SR, then PC  [01 step 1] [01 step 8]
 unfoldable pub small-room : View → ℕ → Bool

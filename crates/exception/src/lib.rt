@@ -53,7 +53,7 @@ fn enter(s: &mut [u32; 20], mem: &[u8], a: u32, vec: u32, sr: u32)
     ensures { λ _. ⌜ now (s .exit) ≡ enter (now (s .entry)) (view-of (now (mem .entry))) a vec sr ⌝ }
 {
     let w = bus::read_long(mem, vec % 256 * 4, 17, fresh(0, 0));
-    let pc = w.v;
+    let pc = w.value;
     s[16] = a;
     s[17] = pc;
     s[18] = sr;

@@ -8,8 +8,8 @@ ghost use Rattle.flags.specs.Flags.{flags, x-of, n-of, z-of, v-of, c-of,
 
 // A result and the five flags that go with it.
 pub struct Flagged {
-    pub v: u32,
-    pub c: u32,
+    pub value: u32,
+    pub ccr: u32,
 }
 
 // X N Z V C as 16 8 4 2 1.

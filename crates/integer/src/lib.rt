@@ -87,7 +87,7 @@ fn quotient_by(which: u32, a: u32, b: u32, old: u32) -> Divided
 fn only_flags(a: Flagged, f: Flow) -> Plan
     ensures { λ p. ⌜ p ≡ only-flags a f ⌝ }
 {
-    plan::nothing(plan::flagged(f, a.c))
+    plan::nothing(plan::flagged(f, a.ccr))
 }
 
 // A result and its flags, to register n.
@@ -95,7 +95,7 @@ fn into_register(r: &mut [u32; 20], n: u32, z: u32, a: Flagged, f: Flow) -> Plan
     ensures { λ p. ⌜ p ≡ into-register (now (r .entry)) n z a f .p ⌝ }
     ensures { λ p. ⌜ now (r .exit) ≡ into-register (now (r .entry)) n z a f .r ⌝ }
 {
-    operand::put_low(r, n, z, a.v);
+    operand::put_low(r, n, z, a.value);
     only_flags(a, f)
 }
 
@@ -107,8 +107,8 @@ pub fn to_register(which: u32, r: &mut [u32; 20], mem: &[u8], op: u32, f: Flow) 
     let z = op / 64 % 4;
     let n = op / 512 % 8;
     let w = operand::source(r, mem, op / 8 % 8, op % 8, z, f);
-    let g = w.f;
-    let a = binary(which, operand::get(r, n), w.v, f.sr, z);
+    let g = w.flow;
+    let a = binary(which, operand::get(r, n), w.value, f.sr, z);
     into_register(r, n, z, a, g)
 }
 
@@ -120,7 +120,7 @@ fn onto(which: u32, b: u32, r: &mut [u32; 20], mem: &[u8], op: u32, f: Flow) -> 
     let z = op / 64 % 4;
     let d = operand::modify(r, mem, op / 8 % 8, op % 8, z, f);
     let q = d.q;
-    let a = binary(which, d.v, b, f.sr, z);
+    let a = binary(which, d.value, b, f.sr, z);
     plan::finish(r, q, z, a)
 }
 
@@ -139,7 +139,7 @@ pub fn immediate_to(which: u32, r: &mut [u32; 20], mem: &[u8], op: u32, f: Flow)
     ensures { λ p. ⌜ now (r .exit) ≡ immediate-to which (now (r .entry)) (view-of (now (mem .entry))) op f .r ⌝ }
 {
     let i = operand::immediate(mem, op / 64 % 4, f);
-    let g = i.f;
+    let g = i.flow;
     onto(which, i.at, r, mem, op, g)
 }
 
@@ -150,10 +150,10 @@ pub fn compare_immediate(r: &mut [u32; 20], mem: &[u8], op: u32, f: Flow) -> Pla
 {
     let z = op / 64 % 4;
     let i = operand::immediate(mem, z, f);
-    let g = i.f;
+    let g = i.flow;
     let d = operand::source(r, mem, op / 8 % 8, op % 8, z, g);
-    let h = d.f;
-    only_flags(alu::compare(d.v, i.at, f.sr, z), h)
+    let h = d.flow;
+    only_flags(alu::compare(d.value, i.at, f.sr, z), h)
 }
 
 // ADDQ, SUBQ to a place that is no address register.
@@ -183,8 +183,8 @@ pub fn to_address(which: u32, r: &mut [u32; 20], mem: &[u8], op: u32, f: Flow) -
     let z = 1 + op / 256 % 2;
     let n = 8 + op / 512 % 8;
     let w = operand::source(r, mem, op / 8 % 8, op % 8, z, f);
-    let g = w.f;
-    let b = bits::sign_extended(w.v, z);
+    let g = w.flow;
+    let b = bits::sign_extended(w.value, z);
     let a = address_sum(which, operand::get(r, n), b);
     operand::put(r, n, a);
     plan::nothing(g)
@@ -198,8 +198,8 @@ pub fn compare_address(r: &mut [u32; 20], mem: &[u8], op: u32, f: Flow) -> Plan
     let z = 1 + op / 256 % 2;
     let n = 8 + op / 512 % 8;
     let w = operand::source(r, mem, op / 8 % 8, op % 8, z, f);
-    let g = w.f;
-    let b = bits::sign_extended(w.v, z);
+    let g = w.flow;
+    let b = bits::sign_extended(w.value, z);
     only_flags(alu::compare(operand::get(r, n), b, f.sr, 2), g)
 }
 
@@ -211,10 +211,10 @@ pub fn paired(which: u32, r: &mut [u32; 20], mem: &[u8], op: u32, f: Flow) -> Pl
     let z = op / 64 % 4;
     let mode = op / 8 % 2 * 4;
     let s = operand::source(r, mem, mode, op % 8, z, f);
-    let g = s.f;
+    let g = s.flow;
     let d = operand::modify(r, mem, mode, op / 512 % 8, z, g);
     let q = d.q;
-    let a = continuing(which, d.v, s.v, f.sr, z);
+    let a = continuing(which, d.value, s.value, f.sr, z);
     plan::finish(r, q, z, a)
 }
 
@@ -225,10 +225,10 @@ pub fn compare_memory(r: &mut [u32; 20], mem: &[u8], op: u32, f: Flow) -> Plan
 {
     let z = op / 64 % 4;
     let s = operand::source(r, mem, 3, op % 8, z, f);
-    let g = s.f;
+    let g = s.flow;
     let d = operand::source(r, mem, 3, op / 512 % 8, z, g);
-    let h = d.f;
-    only_flags(alu::compare(d.v, s.v, f.sr, z), h)
+    let h = d.flow;
+    only_flags(alu::compare(d.value, s.value, f.sr, z), h)
 }
 
 // The operand of the operation word's mode, alone.
@@ -238,7 +238,7 @@ fn alone(which: u32, z: u32, r: &mut [u32; 20], mem: &[u8], op: u32, f: Flow) ->
 {
     let d = operand::modify(r, mem, op / 8 % 8, op % 8, z, f);
     let q = d.q;
-    let a = unary_result(which, d.v, f.sr, z);
+    let a = unary_result(which, d.value, f.sr, z);
     plan::finish(r, q, z, a)
 }
 
@@ -265,8 +265,8 @@ pub fn test(r: &mut [u32; 20], mem: &[u8], op: u32, f: Flow) -> Plan
 {
     let z = op / 64 % 4;
     let w = operand::source(r, mem, op / 8 % 8, op % 8, z, f);
-    let g = w.f;
-    only_flags(alu::moved(w.v, f.sr, z), g)
+    let g = w.flow;
+    only_flags(alu::moved(w.value, f.sr, z), g)
 }
 
 // MULS, MULU <ea>,Dn.
@@ -276,8 +276,8 @@ pub fn multiply(which: u32, r: &mut [u32; 20], mem: &[u8], op: u32, f: Flow) -> 
 {
     let n = op / 512 % 8;
     let w = operand::source(r, mem, op / 8 % 8, op % 8, 1, f);
-    let g = w.f;
-    let a = product_by(which, operand::get(r, n), w.v, f.sr);
+    let g = w.flow;
+    let a = product_by(which, operand::get(r, n), w.value, f.sr);
     into_register(r, n, 2, a, g)
 }
 
@@ -288,13 +288,13 @@ pub fn divide(which: u32, r: &mut [u32; 20], mem: &[u8], op: u32, f: Flow) -> Pl
 {
     let n = op / 512 % 8;
     let w = operand::source(r, mem, op / 8 % 8, op % 8, 1, f);
-    let g = w.f;
-    let d = quotient_by(which, operand::get(r, n), w.v, f.sr);
-    let h = plan::flagged(g, d.c);
+    let g = w.flow;
+    let d = quotient_by(which, operand::get(r, n), w.value, f.sr);
+    let h = plan::flagged(g, d.ccr);
     let zero = d.zero;
     if zero {
         return plan::trapping(5, h);
     }
-    operand::put(r, n, d.v);
+    operand::put(r, n, d.value);
     plan::nothing(h)
 }

@@ -55,11 +55,11 @@ state-fits-is s b e = cc
 
 -- reset
 module _ (m : List ℕ) where
-  pub reset-slots-is : (d e : Flow) (x y : Fetched) → d ≡ fresh 0 0 → x ≡ read-long (view-of m) 0 17 d → e ≡ fresh 0 0 → y ≡ read-long (view-of m) 4 17 e → x .v < 2 ^ 32 → y .v < 2 ^ 32
-      → (0 ∷ 0 ∷ 0 ∷ 0 ∷ 0 ∷ 0 ∷ 0 ∷ 0 ∷ 0 ∷ 0 ∷ 0 ∷ 0 ∷ 0 ∷ 0 ∷ 0 ∷ 0 ∷ x .v ∷ y .v ∷ 9984 ∷ 0 ∷ []) ≡ reset-slots m
+  pub reset-slots-is : (d e : Flow) (x y : Fetched) → d ≡ fresh 0 0 → x ≡ read-long (view-of m) 0 17 d → e ≡ fresh 0 0 → y ≡ read-long (view-of m) 4 17 e → x .value < 2 ^ 32 → y .value < 2 ^ 32
+      → (0 ∷ 0 ∷ 0 ∷ 0 ∷ 0 ∷ 0 ∷ 0 ∷ 0 ∷ 0 ∷ 0 ∷ 0 ∷ 0 ∷ 0 ∷ 0 ∷ 0 ∷ 0 ∷ x .value ∷ y .value ∷ 9984 ∷ 0 ∷ []) ≡ reset-slots m
   reset-slots-is d e x y p q r t h k =
-      let a : x .v ≡ long (x .v) = omega arith in
-      let b : y .v ≡ long (y .v) = omega arith in cc
+      let a : x .value ≡ long (x .value) = omega arith in
+      let b : y .value ≡ long (y .value) = omega arith in cc
 
   module _ (b : Bool) (e : b ≡ memory-fits m) where
     pub reset-done : (n : List ℕ) → b ≡ true → n ≡ reset-slots m → n ≡ reset-call m

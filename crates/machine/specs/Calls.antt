@@ -35,7 +35,7 @@ state-fits s = valid-status (sr-of s) && leb (mode-of s) 2
 abbrev pub reset-slots : List ℕ → List ℕ
 reset-slots m =
     0 ∷ 0 ∷ 0 ∷ 0 ∷ 0 ∷ 0 ∷ 0 ∷ 0 ∷ 0 ∷ 0 ∷ 0 ∷ 0 ∷ 0 ∷ 0 ∷ 0 ∷ 0
-    ∷ long (read-long (view-of m) 0 17 (fresh 0 0) .v) ∷ long (read-long (view-of m) 4 17 (fresh 0 0) .v) ∷ 9984 ∷ 0 ∷ []
+    ∷ long (read-long (view-of m) 0 17 (fresh 0 0) .value) ∷ long (read-long (view-of m) 4 17 (fresh 0 0) .value) ∷ 9984 ∷ 0 ∷ []
 
 -- 2 in slot 19 and 0 in every other  [01 Calls]
 abbrev pub refused-slots : List ℕ

@@ -78,8 +78,8 @@ fn reset_slots(memory: &[u8]) -> [u32; 20]
         0,
         0,
         0,
-        ssp.v,
-        pc.v,
+        ssp.value,
+        pc.value,
         9984,
         0,
     ]

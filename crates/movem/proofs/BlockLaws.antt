@@ -27,23 +27,23 @@ unfolding mirrored
 mirrored-is x a b e1 e2 = cc
 
 module _ (p : Plan) where
-  pub put-way-down : (l a n : ℕ) → eqb (p .z / 2) 3 ≡ true → (n ≡ onesIn 16 (p .v)) × (n ≤ 16) → l ≡ mirrored (p .v)
-      → a ≡ minus (p .at) (n * 2 * (1 + p .z % 2))
-      → record { z = 1 + p .z % 2; list = l; start = a; step = 2 * (1 + p .z % 2) } ≡ put-way p
+  pub put-way-down : (l a n : ℕ) → eqb (p .write / 2) 3 ≡ true → (n ≡ onesIn 16 (p .value)) × (n ≤ 16) → l ≡ mirrored (p .value)
+      → a ≡ minus (p .at) (n * 2 * (1 + p .write % 2))
+      → record { size = 1 + p .write % 2; list = l; start = a; step = 2 * (1 + p .write % 2) } ≡ put-way p
   unfolding put-way
   put-way-down l a n t e0 e1 e2 = cc
 
-  pub put-way-other : (w : Way) → eqb (p .z / 2) 3 ≡ false → w ≡ room-way p → w ≡ put-way p
+  pub put-way-other : (w : Way) → eqb (p .write / 2) 3 ≡ false → w ≡ room-way p → w ≡ put-way p
   unfolding put-way
   put-way-other w t e = cc
 
 module _ (r : List ℕ) (p : Plan) where
   module _ (k v : ℕ) where
-    pub part-of-bytes : leb 8 (p .z) ≡ true → v ≡ byte-of (p .v) (k % 16 + 2 - p .z % 2 * 2) → v ≡ part-of r p k
+    pub part-of-bytes : leb 8 (p .write) ≡ true → v ≡ byte-of (p .value) (k % 16 + 2 - p .write % 2 * 2) → v ≡ part-of r p k
     unfolding part-of
     part-of-bytes t e = cc
 
-    pub part-of-register : leb 8 (p .z) ≡ false → v ≡ stored r (p .at) (p .v / 65536) k → v ≡ part-of r p k
+    pub part-of-register : leb 8 (p .write) ≡ false → v ≡ stored r (p .at) (p .value / 65536) k → v ≡ part-of r p k
     unfolding part-of
     part-of-register t e = cc
 
@@ -82,7 +82,7 @@ module _ (m l : List ℕ) (n : ℕ) where
 
 -- one part of a block
 module _ (r : List ℕ) (p : Plan) (w : Way) (d : Spot) (m : List ℕ) where
-  pub put-part-listed : (v : ℕ) (m₁ : List ℕ) → listed d ≡ true → v ≡ part-of r p (d .k) → m₁ ≡ put-sized m (d .a) (w .z) v → m₁ ≡ put-part r p w d m
+  pub put-part-listed : (v : ℕ) (m₁ : List ℕ) → listed d ≡ true → v ≡ part-of r p (d .index) → m₁ ≡ put-sized m (d .at) (w .size) v → m₁ ≡ put-part r p w d m
   unfolding put-part
   put-part-listed v m₁ t e h = cc
 
@@ -103,7 +103,7 @@ module _ (r : List ℕ) (p : Plan) (w : Way) (m₀ l₀ : List ℕ) (n₀ : ℕ)
     pub storing-room : j < 16 → n₀ + 64 ≤ length l₀ → n + 4 ≤ length l
     storing-room h q = omega (arith, s .noted .most, s .noted .long)
 
-    pub storing-again : (m₁ l₁ : List ℕ) (n₁ : ℕ) (e : Spot) → j < 16 → m₁ ≡ put-part r p w d m → Noted m l n 4 m₁ l₁ n₁ → e ≡ next-spot w d (p .f)
+    pub storing-again : (m₁ l₁ : List ℕ) (n₁ : ℕ) (e : Spot) → j < 16 → m₁ ≡ put-part r p w d m → Noted m l n 4 m₁ l₁ n₁ → e ≡ next-spot w d (p .flow)
         → Storing r p w m₀ l₀ n₀ d₀ (j + 1) m₁ l₁ n₁ e
     unfolding put-one
     storing-again m₁ l₁ n₁ e h k a q = record {
@@ -111,9 +111,9 @@ module _ (r : List ℕ) (p : Plan) (w : Way) (m₀ l₀ : List ℕ) (n₀ : ℕ)
       noted = noted-then m₀ l₀ n₀ (j * 4) m l n 4 m₁ l₁ n₁ ((j + 1) * 4) (omega arith) (s .noted) a;
     }
 
-    pub storing-memory : 16 ≤ j → w ≡ put-way p → d₀ ≡ first-spot w (p .f) → m ≡ block-put m₀ r p
+    pub storing-memory : 16 ≤ j → w ≡ put-way p → d₀ ≡ first-spot w (p .flow) → m ≡ block-put m₀ r p
     unfolding block-put
-    storing-memory h e q = let t = ap (λ (y : Walk). y .x) (walk-end (put-one r p w) 16 j m₀ d₀ m d (first-spot w (p .f)) (s .turns) q h) in cc
+    storing-memory h e q = let t = ap (λ (y : Walk). y .held) (walk-end (put-one r p w) 16 j m₀ d₀ m d (first-spot w (p .flow)) (s .turns) q h) in cc
 
     pub storing-noted : Noted m₀ l₀ n₀ 64 m l n
     storing-noted = noted-within m₀ l₀ n₀ m l n (j * 4) 64 (omega (arith, s .turns .le)) (s .noted)

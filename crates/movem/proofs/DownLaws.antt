@@ -102,7 +102,7 @@ end-append s (some v ∷ ps) qs a = end-append s ps qs (plus a s)
 
 -- one turn of a walk that puts g k at place k
 abbrev turn : (ℕ → ℕ) → Way → Flow → Walk → Walk
-turn g w f t = record { x = pick (listed (t .d)) (put-sized (t .x) (t .d .a) (w .z) (g (t .d .k))) (t .x); d = next-spot w (t .d) f }
+turn g w f t = record { held = pick (listed (t .spot)) (put-sized (t .held) (t .spot .at) (w .size) (g (t .spot .index))) (t .held); spot = next-spot w (t .spot) f }
 
 puts-first : (b : Bool) (z s v : ℕ) (ps : List (Option ℕ)) (a : ℕ) (m : List ℕ)
     → puts z s ps (pick b (plus a s) a) (pick b (put-sized m a z v) m) ≡ puts z s (pick b (some v) none ∷ ps) a m
@@ -110,12 +110,12 @@ puts-first true z s v ps a m = refl
 puts-first false z s v ps a m = refl
 
 walked : (g : ℕ → ℕ) (w : Way) (f : Flow) (n : ℕ) (m : List ℕ) (d : Spot)
-    → iter (turn g w f) n (walk m d) .x ≡ puts (w .z) (w .step) (parts g (bits n (d .list)) (d .k)) (d .a) m
+    → iter (turn g w f) n (walk m d) .held ≡ puts (w .size) (w .step) (parts g (bits n (d .list)) (d .index)) (d .at) m
 unfolding iter next-spot
 walked g w f zero m d = refl
 walked g w f (suc n) m d =
-    walked g w f n (pick (listed d) (put-sized m (d .a) (w .z) (g (d .k))) m) (next-spot w d f)
-    ∙ puts-first (listed d) (w .z) (w .step) (g (d .k)) (parts g (bits n (d .list / 2)) (plus (d .k) 1)) (d .a) m
+    walked g w f n (pick (listed d) (put-sized m (d .at) (w .size) (g (d .index))) m) (next-spot w d f)
+    ∙ puts-first (listed d) (w .size) (w .step) (g (d .index)) (parts g (bits n (d .list / 2)) (plus (d .index) 1)) (d .at) m
 
 count-first : (b : Bool) (v : ℕ) (ps : List (Option ℕ)) → count (pick b (some v) none ∷ ps) ≡ bit b + count ps
 count-first true v ps = refl
@@ -243,31 +243,31 @@ module _ (k : ℕ) (i : k < 2) where
 
 -- ---- the block of -(An), as it is stored and as 003 stores it
 abbrev up-way : Plan → Way
-up-way p = let z = 1 + p .z % 2 in record { z = z; list = mirrored (p .v); start = minus (p .at) (onesIn 16 (p .v) * 2 * z); step = 2 * z }
+up-way p = let z = 1 + p .write % 2 in record { size = z; list = mirrored (p .value); start = minus (p .at) (onesIn 16 (p .value) * 2 * z); step = 2 * z }
 
 abbrev down-way : Plan → Way
-down-way p = let z = 1 + p .z % 2 in record { z = z; list = p .v % 65536; start = minus (p .at) (2 * z); step = minus 0 (2 * z) }
+down-way p = let z = 1 + p .write % 2 in record { size = z; list = p .value % 65536; start = minus (p .at) (2 * z); step = minus 0 (2 * z) }
 
-module _ (r : List ℕ) (p : Plan) (e : p .z / 2 ≡ 3) where
+module _ (r : List ℕ) (p : Plan) (e : p .write / 2 ≡ 3) where
   up-is : up-way p ≡ put-way p
-  up-is = put-way-down p (up-way p .list) (up-way p .start) (onesIn 16 (p .v)) (eq-eqb (p .z / 2) 3 e) (refl, ones-bound 16 (p .v)) refl refl
+  up-is = put-way-down p (up-way p .list) (up-way p .start) (onesIn 16 (p .value)) (eq-eqb (p .write / 2) 3 e) (refl, ones-bound 16 (p .value)) refl refl
 
   down-is : down-way p ≡ room-way p
-  down-is = room-way-down p (down-way p .start) (down-way p .step) (ne-eqb (p .z / 2) 2 (omega arith)) (eq-eqb (p .z / 2) 3 e) refl refl
+  down-is = room-way-down p (down-way p .start) (down-way p .step) (ne-eqb (p .write / 2) 2 (omega arith)) (eq-eqb (p .write / 2) 3 e) refl refl
 
-  part-is : (k : ℕ) → part-of r p k ≡ stored r (p .at) (p .v / 65536) k
-  part-is k = sym (part-of-register r p k (stored r (p .at) (p .v / 65536) k) (lt-leb 8 (p .z) (omega arith)) refl)
+  part-is : (k : ℕ) → part-of r p k ≡ stored r (p .at) (p .value / 65536) k
+  part-is k = sym (part-of-register r p k (stored r (p .at) (p .value / 65536) k) (lt-leb 8 (p .write) (omega arith)) refl)
 
 -- MOVEM to -(An) leaves in memory what the order of 003 leaves
-pub block-put-is-down : (m r : List ℕ) (p : Plan) → p .z / 2 ≡ 3 → block-put m r p ≡ block-put-down m r p
+pub block-put-is-down : (m r : List ℕ) (p : Plan) → p .write / 2 ≡ 3 → block-put m r p ≡ block-put-down m r p
 unfolding block-put block-put-down put-one put-part down-one
 block-put-is-down m r p e =
     let u = up-way p in
     let d = down-way p in
-    let h = stored r (p .at) (p .v / 65536) in
-    ap (λ (w : Way). iter (put-one r p w) 16 (walk m (first-spot w (p .f))) .x) (sym (up-is r p e))
-    ∙ walked (part-of r p) u (p .f) 16 m (first-spot u (p .f))
+    let h = stored r (p .at) (p .value / 65536) in
+    ap (λ (w : Way). iter (put-one r p w) 16 (walk m (first-spot w (p .flow))) .held) (sym (up-is r p e))
+    ∙ walked (part-of r p) u (p .flow) 16 m (first-spot u (p .flow))
     ∙ ap (λ (g : ℕ → ℕ). puts (u .z) (u .step) (parts g (bits 16 (u .list)) 0) (u .start) m) (fun-ext (part-is r p e))
-    ∙ over-mirror (p .z % 2) (omega arith) h (p .v) (p .at) m
-    ∙ sym (walked (λ j. h (15 - j)) d (p .f) 16 m (first-spot d (p .f)))
-    ∙ ap (λ (w : Way). iter (down-one r p w) 16 (walk m (first-spot w (p .f))) .x) (down-is r p e)
+    ∙ over-mirror (p .write % 2) (omega arith) h (p .value) (p .at) m
+    ∙ sym (walked (λ j. h (15 - j)) d (p .flow) 16 m (first-spot d (p .flow)))
+    ∙ ap (λ (w : Way). iter (down-one r p w) 16 (walk m (first-spot w (p .flow))) .held) (down-is r p e)

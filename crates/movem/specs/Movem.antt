@@ -23,36 +23,36 @@ listed d = eqb (d .list % 2) 1
 
 -- where a walk begins, and where it stands after one bit of its list  [ours]
 abbrev pub first-spot : Way → Flow → Spot
-first-spot w f = record { list = w .list; k = 0; a = w .start; f = f }
+first-spot w f = record { list = w .list; index = 0; at = w .start; flow = f }
 
 unfoldable pub next-spot : Way → Spot → Flow → Spot
-next-spot w d f = record { list = d .list / 2; k = plus (d .k) 1; a = pick (listed d) (plus (d .a) (w .step)) (d .a); f = f }
+next-spot w d f = record { list = d .list / 2; index = plus (d .index) 1; at = pick (listed d) (plus (d .at) (w .step)) (d .at); flow = f }
 
 -- what a walk changes, registers or memory, and where it stands  [ours]
 pub record Walk : Type 0 where
-  pub x : List ℕ
-  pub d : Spot
+  pub held : List ℕ
+  pub spot : Spot
 
 -- one register, if the list has it: bit 0 is D0, bit 8 A0; a word is carried on to 32 bits  [003 B MOVEM] [01 Operands]
 unfoldable pub load-one : View → ℕ → Way → Walk → Walk
 load-one v k w t =
-    let d = t .d in
-    let y = read-sized v (d .a) (w .z) k (d .f) in
-    pick (listed d) (record { x = put (t .x) (d .k) (sign-extended (y .v) (w .z)); d = next-spot w d (y .f) })
-    (record { x = t .x; d = next-spot w d (d .f) })
+    let d = t .spot in
+    let y = read-sized v (d .at) (w .size) k (d .flow) in
+    pick (listed d) (record { held = put (t .held) (d .index) (sign-extended (y .value) (w .size)); spot = next-spot w d (y .flow) })
+    (record { held = t .held; spot = next-spot w d (d .flow) })
 
 -- all sixteen  [003 B MOVEM]
 abbrev pub load-list : List ℕ → View → ℕ → Way → Flow → Walk
-load-list r v k w f = iter (load-one v k w) 16 (record { x = r; d = first-spot w f })
+load-list r v k w f = iter (load-one v k w) 16 (record { held = r; spot = first-spot w f })
 
 -- MOVEM to registers: the list's word, then the mode's words; (An)+ leaves An at the final address even if An was listed  [003 B MOVEM] [01 Operands]
 unfoldable pub movem-to-registers : List ℕ → View → ℕ → Flow → Done
 movem-to-registers r v op f =
     let z = 1 + op / 64 % 2 in
     let l = next-word v f in
-    let q = locate r v (op / 8 % 8) (op % 8) z (l .f) in
-    let t = load-list r v (q .k) (record { z = z; list = l .v; start = q .at; step = 2 * z }) (q .f) in
-    record { r = put (t .x) (q .reg) (t .d .a); p = nothing (t .d .f) }
+    let q = locate r v (op / 8 % 8) (op % 8) z (l .flow) in
+    let t = load-list r v (q .access) (record { size = z; list = l .value; start = q .at; step = 2 * z }) (q .flow) in
+    record { r = put (t .held) (q .reg) (t .spot .at); p = nothing (t .spot .flow) }
 
 -- MOVEM to -(An): An falls by the size for each one of the list, and its first value goes into the plan  [003 B MOVEM] [01 Operands]
 unfoldable pub movem-down : List ℕ → ℕ → ℕ → Flow → Done
@@ -65,22 +65,22 @@ movem-down r list op f =
 unfoldable pub movem-to-memory : List ℕ → View → ℕ → Flow → Done
 movem-to-memory r v op f =
     let l = next-word v f in
-    let q = locate r v (op / 8 % 8) (op % 8) (1 + op / 64 % 2) (l .f) in
+    let q = locate r v (op / 8 % 8) (op % 8) (1 + op / 64 % 2) (l .flow) in
     pick (eqb (op / 8 % 8) 4)
-    (movem-down r (l .v) op (l .f))
-    (record { r = r; p = writing (4 + op / 64 % 2) (q .at) (l .v + 65536 * 17) (q .f) })
+    (movem-down r (l .value) op (l .flow))
+    (record { r = r; p = writing (4 + op / 64 % 2) (q .at) (l .value + 65536 * 17) (q .flow) })
 
 -- a plan's block as its room is asked, by its code: 4, 5 upward, 6, 7 downward from A7, else every other byte  [003 B MOVEM] [003 B MOVEP]
 unfoldable pub room-way : Plan → Way
 room-way p =
-    let z = 1 + p .z % 2 in
-    pick (eqb (p .z / 2) 2) (record { z = z; list = p .v % 65536; start = p .at; step = 2 * z })
-    (pick (eqb (p .z / 2) 3) (record { z = z; list = p .v % 65536; start = minus (p .at) (2 * z); step = minus 0 (2 * z) })
-    (record { z = 0; list = 3 + p .z % 2 * 12; start = p .at; step = 2 }))
+    let z = 1 + p .write % 2 in
+    pick (eqb (p .write / 2) 2) (record { size = z; list = p .value % 65536; start = p .at; step = 2 * z })
+    (pick (eqb (p .write / 2) 3) (record { size = z; list = p .value % 65536; start = minus (p .at) (2 * z); step = minus 0 (2 * z) })
+    (record { size = 0; list = 3 + p .write % 2 * 12; start = p .at; step = 2 }))
 
 -- one part of a block, if the list has it: is there room  [01 step 6]
 unfoldable pub room-one : View → Way → Spot → Spot
-room-one v w d = next-spot w d (pick (listed d) (room v (d .a) (w .z) (d .f)) (d .f))
+room-one v w d = next-spot w d (pick (listed d) (room v (d .at) (w .size) (d .flow)) (d .flow))
 
 -- all of a block  [01 step 6]
 abbrev pub room-list : View → Way → Flow → Spot
@@ -88,7 +88,7 @@ room-list v w f = iter (room-one v w) 16 (first-spot w f)
 
 -- the flow with the fault that a block's writes meet first, if any  [01 step 6] [003 B MOVEM]
 unfoldable pub block-room : View → Plan → Flow
-block-room v p = room-list v (room-way p) (p .f) .f
+block-room v p = room-list v (room-way p) (p .flow) .flow
 
 -- the low sixteen bits in the other order: the list of -(An) begins with A7  [003 B MOVEM]
 abbrev pub mirrored-byte : ℕ → ℕ
@@ -101,9 +101,9 @@ mirrored x = mirrored-byte x * 256 + mirrored-byte (x / 256)
 -- same as after 003's order, block-put-down below  [003 B MOVEM] [01 Operands]
 unfoldable pub put-way : Plan → Way
 put-way p =
-    let z = 1 + p .z % 2 in
-    pick (eqb (p .z / 2) 3)
-    (record { z = z; list = mirrored (p .v); start = minus (p .at) (onesIn 16 (p .v) * 2 * z); step = 2 * z })
+    let z = 1 + p .write % 2 in
+    pick (eqb (p .write / 2) 3)
+    (record { size = z; list = mirrored (p .value); start = minus (p .at) (onesIn 16 (p .value) * 2 * z); step = 2 * z })
     (room-way p)
 
 -- register i as MOVEM stores it: the one that -(An) lowered, `own`, by its first value  [01 Operands]
@@ -116,27 +116,27 @@ byte-of v j = getD (v / 16777216 ∷ v / 65536 ∷ v / 256 ∷ []) j v
 
 -- what a block has at place k of its list: MOVEM's register k, MOVEP's byte k, of which a word has only the last two  [003 B MOVEM] [003 B MOVEP]
 unfoldable pub part-of : List ℕ → Plan → ℕ → ℕ
-part-of r p k = pick (leb 8 (p .z)) (byte-of (p .v) (k % 16 + 2 - p .z % 2 * 2)) (stored r (p .at) (p .v / 65536) k)
+part-of r p k = pick (leb 8 (p .write)) (byte-of (p .value) (k % 16 + 2 - p .write % 2 * 2)) (stored r (p .at) (p .value / 65536) k)
 
 -- memory after one part of a block, if the list has it  [003 B MOVEM] [003 B MOVEP]
 unfoldable pub put-part : List ℕ → Plan → Way → Spot → List ℕ → List ℕ
-put-part r p w d m = pick (listed d) (put-sized m (d .a) (w .z) (part-of r p (d .k))) m
+put-part r p w d m = pick (listed d) (put-sized m (d .at) (w .size) (part-of r p (d .index))) m
 
 -- one bit of the list: memory, and where the walk stands  [ours]
 unfoldable pub put-one : List ℕ → Plan → Way → Walk → Walk
-put-one r p w t = record { x = put-part r p w (t .d) (t .x); d = next-spot w (t .d) (p .f) }
+put-one r p w t = record { held = put-part r p w (t .spot) (t .held); spot = next-spot w (t .spot) (p .flow) }
 
 -- memory after a block's writes  [003 B MOVEM] [003 B MOVEP]
 unfoldable pub block-put : List ℕ → List ℕ → Plan → List ℕ
-block-put m r p = let w = put-way p in iter (put-one r p w) 16 (record { x = m; d = first-spot w (p .f) }) .x
+block-put m r p = let w = put-way p in iter (put-one r p w) 16 (record { held = m; spot = first-spot w (p .flow) }) .held
 
 -- 003's own order for -(An), downward from A7 as the room was asked: bit k of the list is register 15 - k  [003 B MOVEM]
 unfoldable pub down-one : List ℕ → Plan → Way → Walk → Walk
 down-one r p w t =
-    let d = t .d in
-    let v = stored r (p .at) (p .v / 65536) (15 - d .k) in
-    record { x = pick (listed d) (put-sized (t .x) (d .a) (w .z) v) (t .x); d = next-spot w d (p .f) }
+    let d = t .spot in
+    let v = stored r (p .at) (p .value / 65536) (15 - d .index) in
+    record { held = pick (listed d) (put-sized (t .held) (d .at) (w .size) v) (t .held); spot = next-spot w d (p .flow) }
 
 -- memory after a block's writes in that order. Nothing runs it: block-put-is-down says that block-put leaves the same  [003 B MOVEM]
 unfoldable pub block-put-down : List ℕ → List ℕ → Plan → List ℕ
-block-put-down m r p = let w = room-way p in iter (down-one r p w) 16 (record { x = m; d = first-spot w (p .f) }) .x
+block-put-down m r p = let w = room-way p in iter (down-one r p w) 16 (record { held = m; spot = first-spot w (p .flow) }) .held

@@ -15,7 +15,7 @@ use plan::Plan;
 // How a list of 16 bits is walked, lowest bit first: the size of each part that it has, the list, the address of its first part,
 // and the way from one part to the next.
 pub struct Way {
-    pub z: u32,
+    pub size: u32,
     pub list: u32,
     pub start: u32,
     pub step: u32,
@@ -24,9 +24,9 @@ pub struct Way {
 // Where a walk stands: what is left of the list, the place of its lowest bit, the address, the flow.
 pub struct Spot {
     pub list: u32,
-    pub k: u32,
-    pub a: u32,
-    pub f: Flow,
+    pub index: u32,
+    pub at: u32,
+    pub flow: Flow,
 }
 
 fn first_spot(w: Way, f: Flow) -> Spot
@@ -34,9 +34,9 @@ fn first_spot(w: Way, f: Flow) -> Spot
 {
     Spot {
         list: w.list,
-        k: 0,
-        a: w.start,
-        f,
+        index: 0,
+        at: w.start,
+        flow: f,
     }
 }
 
@@ -44,40 +44,40 @@ fn next_spot(w: Way, d: Spot, f: Flow) -> Spot
     ensures { λ e. ⌜ e ≡ next-spot w d f ⌝ }
 {
     let on = d.list % 2 == 1;
-    let next = std::num::wrapping_add_u32(d.k, 1);
+    let next = std::num::wrapping_add_u32(d.index, 1);
     if on {
         return Spot {
             list: d.list / 2,
-            k: next,
-            a: std::num::wrapping_add_u32(d.a, w.step),
-            f,
+            index: next,
+            at: std::num::wrapping_add_u32(d.at, w.step),
+            flow: f,
         };
     }
     Spot {
         list: d.list / 2,
-        k: next,
-        a: d.a,
-        f,
+        index: next,
+        at: d.at,
+        flow: f,
     }
 }
 
 // Register k is loaded if the list has it; a word is carried on to 32 bits.
 fn load_one(r: &mut [u32; 20], mem: &[u8], k: u32, w: Way, d: Spot) -> Spot
-    ensures { λ e. ⌜ record { x = now (r .exit); d = e } ≡ load-one (view-of (now (mem .entry))) k w (record { x = now (r .entry); d = d }) ⌝ }
+    ensures { λ e. ⌜ record { held = now (r .exit); spot = e } ≡ load-one (view-of (now (mem .entry))) k w (record { held = now (r .entry); spot = d }) ⌝ }
 {
-    let f = d.f;
+    let f = d.flow;
     let on = d.list % 2 == 1;
     if on {
-        let y = bus::read_sized(mem, d.a, w.z, k, f);
-        let g = y.f;
-        operand::put(r, d.k, bits::sign_extended(y.v, w.z));
+        let y = bus::read_sized(mem, d.at, w.size, k, f);
+        let g = y.flow;
+        operand::put(r, d.index, bits::sign_extended(y.value, w.size));
         return next_spot(w, d, g);
     }
     next_spot(w, d, f)
 }
 
 fn load_list(r: &mut [u32; 20], mem: &[u8], k: u32, w: Way, f: Flow) -> Spot
-    ensures { λ e. ⌜ record { x = now (r .exit); d = e } ≡ load-list (now (r .entry)) (view-of (now (mem .entry))) k w f ⌝ }
+    ensures { λ e. ⌜ record { held = now (r .exit); spot = e } ≡ load-list (now (r .entry)) (view-of (now (mem .entry))) k w f ⌝ }
 {
     let mut d = first_spot(w, f);
     let mut j: u32 = 0;
@@ -94,18 +94,18 @@ pub fn movem_to_registers(r: &mut [u32; 20], mem: &[u8], op: u32, f: Flow) -> Pl
 {
     let z = 1 + op / 64 % 2;
     let l = bus::next_word(mem, f);
-    let g = l.f;
+    let g = l.flow;
     let q = operand::locate(r, mem, op / 8 % 8, op % 8, z, g);
-    let h = q.f;
+    let h = q.flow;
     let w = Way {
-        z,
-        list: l.v,
+        size: z,
+        list: l.value,
         start: q.at,
         step: 2 * z,
     };
-    let d = load_list(r, mem, q.k, w, h);
-    let e = d.f;
-    operand::put(r, q.reg, d.a);
+    let d = load_list(r, mem, q.access, w, h);
+    let e = d.flow;
+    operand::put(r, q.reg, d.at);
     plan::nothing(e)
 }
 
@@ -139,27 +139,27 @@ pub fn movem_to_memory(r: &mut [u32; 20], mem: &[u8], op: u32, f: Flow) -> Plan
     ensures { λ p. ⌜ record { r = now (r .exit); p = p } ≡ movem-to-memory (now (r .entry)) (view-of (now (mem .entry))) op f ⌝ }
 {
     let l = bus::next_word(mem, f);
-    let g = l.f;
+    let g = l.flow;
     let down = op / 8 % 8 == 4;
     if down {
-        return movem_down(r, l.v, op, g);
+        return movem_down(r, l.value, op, g);
     }
     let q = operand::locate(r, mem, op / 8 % 8, op % 8, 1 + op / 64 % 2, g);
-    let h = q.f;
-    plan::writing(4 + op / 64 % 2, q.at, l.v + 65536 * 17, h)
+    let h = q.flow;
+    plan::writing(4 + op / 64 % 2, q.at, l.value + 65536 * 17, h)
 }
 
 // A plan's block as its room is asked: upward, downward from A7, every other byte.
 fn room_way(p: Plan) -> Way
     ensures { λ w. ⌜ w ≡ room-way p ⌝ }
 {
-    let z = 1 + p.z % 2;
-    let list = p.v % 65536;
-    let up = p.z / 2 == 2;
-    let down = p.z / 2 == 3;
+    let z = 1 + p.write % 2;
+    let list = p.value % 65536;
+    let up = p.write / 2 == 2;
+    let down = p.write / 2 == 3;
     if up {
         return Way {
-            z,
+            size: z,
             list,
             start: p.at,
             step: 2 * z,
@@ -167,15 +167,15 @@ fn room_way(p: Plan) -> Way
     }
     if down {
         return Way {
-            z,
+            size: z,
             list,
             start: bits::minus(p.at, 2 * z),
             step: bits::minus(0, 2 * z),
         };
     }
     Way {
-        z: 0,
-        list: 3 + p.z % 2 * 12,
+        size: 0,
+        list: 3 + p.write % 2 * 12,
         start: p.at,
         step: 2,
     }
@@ -184,10 +184,10 @@ fn room_way(p: Plan) -> Way
 fn room_one(mem: &[u8], w: Way, d: Spot) -> Spot
     ensures { λ e. ⌜ e ≡ room-one (view-of (now (mem .entry))) w d ⌝ }
 {
-    let f = d.f;
+    let f = d.flow;
     let on = d.list % 2 == 1;
     if on {
-        let g = bus::room(mem, d.a, w.z, f);
+        let g = bus::room(mem, d.at, w.size, f);
         return next_spot(w, d, g);
     }
     next_spot(w, d, f)
@@ -209,9 +209,9 @@ fn room_list(mem: &[u8], w: Way, f: Flow) -> Spot
 pub fn block_room(mem: &[u8], p: Plan) -> Flow
     ensures { λ g. ⌜ g ≡ block-room (view-of (now (mem .entry))) p ⌝ }
 {
-    let f = p.f;
+    let f = p.flow;
     let d = room_list(mem, room_way(p), f);
-    d.f
+    d.flow
 }
 
 fn mirrored_byte(x: u32) -> u32
@@ -238,13 +238,13 @@ fn mirrored(x: u32) -> u32
 fn put_way(p: Plan) -> Way
     ensures { λ w. ⌜ w ≡ put-way p ⌝ }
 {
-    let z = 1 + p.z % 2;
-    let down = p.z / 2 == 3;
+    let z = 1 + p.write % 2;
+    let down = p.write / 2 == 3;
     if down {
-        let n = ones_of(p.v);
+        let n = ones_of(p.value);
         return Way {
-            z,
-            list: mirrored(p.v),
+            size: z,
+            list: mirrored(p.value),
             start: bits::minus(p.at, n * 2 * z),
             step: 2 * z,
         };
@@ -279,11 +279,11 @@ fn byte_of(v: u32, j: u32) -> u32
 fn part_of(r: &[u32; 20], p: Plan, k: u32) -> u32
     ensures { λ v. ⌜ v ≡ part-of (now (r .entry)) p k ⌝ }
 {
-    let bytes = 8 <= p.z;
+    let bytes = 8 <= p.write;
     if bytes {
-        return byte_of(p.v, k % 16 + 2 - p.z % 2 * 2);
+        return byte_of(p.value, k % 16 + 2 - p.write % 2 * 2);
     }
-    stored(r, p.at, p.v / 65536, k)
+    stored(r, p.at, p.value / 65536, k)
 }
 
 // One part of a block, if the list has it, is noted in the log and put; how many entries the log then has.
@@ -302,8 +302,8 @@ fn store_part(
 {
     let on = d.list % 2 == 1;
     if on {
-        let v = part_of(r, p, d.k);
-        return store::store_sized(memory, log, n, d.a, w.z, v);
+        let v = part_of(r, p, d.index);
+        return store::store_sized(memory, log, n, d.at, w.size, v);
     }
     n
 }
@@ -314,7 +314,7 @@ pub fn block_store(memory: &mut [u8], log: &mut [u64], n: usize, r: &[u32; 20], 
     ensures memory { λ _. ⌜ now (memory .exit) ≡ block-put (now (memory .entry)) (now (r .entry)) p ⌝ }
     ensures noted { λ m. ⌜ Noted (now (memory .entry)) (now (log .entry)) n 64 (now (memory .exit)) (now (log .exit)) m ⌝ }
 {
-    let f = p.f;
+    let f = p.flow;
     let w = put_way(p);
     let mut d = first_spot(w, f);
     let mut m = n;

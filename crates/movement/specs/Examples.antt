@@ -17,7 +17,7 @@ fresh = record { pc = 0; sr = 0; bad = 0 }
 
 -- what is written, and where  [ours]
 abbrev write-of : Done → List ℕ
-write-of d = d .p .at ∷ d .p .v ∷ []
+write-of d = d .p .at ∷ d .p .value ∷ []
 
 abbrev linked : Done
 linked = link (bank 0 0x100) (view-of (0xFF ∷ 0xF8 ∷ [])) 0x4E57 fresh

@@ -36,21 +36,21 @@ fn move_operands(r: &mut [u32; 20], mem: &[u8], op: u32, z: u32, f: Flow) -> Bot
     ensures { λ b. ⌜ now (r .exit) ≡ move-operands (now (r .entry)) (view-of (now (mem .entry))) op z f .r ⌝ }
 {
     let s = operand::target(r, mem, op / 8 % 8, op % 8, z, f);
-    let sf = s.f;
+    let sf = s.flow;
     let q = operand::locate(r, mem, op / 64 % 8, op / 512 % 8, z, sf);
-    let qf = q.f;
+    let qf = q.flow;
     let w = operand::load(r, mem, s, z, qf);
-    let wf = w.f;
+    let wf = w.flow;
     operand::put(r, q.reg, q.step);
     let d = Operand {
         kind: q.kind,
         at: q.at,
-        k: q.k,
+        access: q.access,
         reg: q.reg,
         step: q.step,
-        f: wf,
+        flow: wf,
     };
-    Both { v: w.v, q: d }
+    Both { value: w.value, q: d }
 }
 
 pub fn move_data(r: &mut [u32; 20], mem: &[u8], op: u32, f: Flow) -> Plan
@@ -60,7 +60,7 @@ pub fn move_data(r: &mut [u32; 20], mem: &[u8], op: u32, f: Flow) -> Plan
     let z = move_size(op);
     let b = move_operands(r, mem, op, z, f);
     let q = b.q;
-    plan::finish(r, q, z, alu::moved(b.v, f.sr, z))
+    plan::finish(r, q, z, alu::moved(b.value, f.sr, z))
 }
 
 pub fn move_address(r: &mut [u32; 20], mem: &[u8], op: u32, f: Flow) -> Plan
@@ -69,8 +69,8 @@ pub fn move_address(r: &mut [u32; 20], mem: &[u8], op: u32, f: Flow) -> Plan
 {
     let z = move_size(op);
     let w = operand::source(r, mem, op / 8 % 8, op % 8, z, f);
-    let g = w.f;
-    operand::put(r, 8 + op / 512 % 8, bits::sign_extended(w.v, z));
+    let g = w.flow;
+    operand::put(r, 8 + op / 512 % 8, bits::sign_extended(w.value, z));
     plan::nothing(g)
 }
 
@@ -79,8 +79,8 @@ pub fn move_quick(r: &mut [u32; 20], mem: &[u8], op: u32, f: Flow) -> Plan
     ensures { λ p. ⌜ now (r .exit) ≡ move-quick (now (r .entry)) (view-of (now (mem .entry))) op f .r ⌝ }
 {
     let a = alu::moved(bits::sign_byte(op), f.sr, 2);
-    operand::put(r, op / 512 % 8, a.v);
-    plan::nothing(plan::flagged(f, a.c))
+    operand::put(r, op / 512 % 8, a.value);
+    plan::nothing(plan::flagged(f, a.ccr))
 }
 
 pub fn load_address(r: &mut [u32; 20], mem: &[u8], op: u32, f: Flow) -> Plan
@@ -88,7 +88,7 @@ pub fn load_address(r: &mut [u32; 20], mem: &[u8], op: u32, f: Flow) -> Plan
     ensures { λ p. ⌜ now (r .exit) ≡ load-address (now (r .entry)) (view-of (now (mem .entry))) op f .r ⌝ }
 {
     let q = operand::locate(r, mem, op / 8 % 8, op % 8, 2, f);
-    let g = q.f;
+    let g = q.flow;
     operand::put(r, 8 + op / 512 % 8, q.at);
     plan::nothing(g)
 }
@@ -99,7 +99,7 @@ pub fn push_address(r: &mut [u32; 20], mem: &[u8], op: u32, f: Flow) -> Plan
     ensures { λ p. ⌜ now (r .exit) ≡ push-address (now (r .entry)) (view-of (now (mem .entry))) op f .r ⌝ }
 {
     let q = operand::locate(r, mem, op / 8 % 8, op % 8, 2, f);
-    let g = q.f;
+    let g = q.flow;
     plan::push(r, q.at, g)
 }
 
@@ -141,8 +141,8 @@ pub fn swap(r: &mut [u32; 20], mem: &[u8], op: u32, f: Flow) -> Plan
     ensures { λ p. ⌜ now (r .exit) ≡ swap (now (r .entry)) (view-of (now (mem .entry))) op f .r ⌝ }
 {
     let a = alu::swapped(operand::get(r, op % 8), f.sr);
-    operand::put(r, op % 8, a.v);
-    plan::nothing(plan::flagged(f, a.c))
+    operand::put(r, op % 8, a.value);
+    plan::nothing(plan::flagged(f, a.ccr))
 }
 
 // A7 falls by 4, and is answered.
@@ -161,11 +161,11 @@ pub fn link(r: &mut [u32; 20], mem: &[u8], op: u32, f: Flow) -> Plan
     ensures { λ p. ⌜ now (r .exit) ≡ link (now (r .entry)) (view-of (now (mem .entry))) op f .r ⌝ }
 {
     let w = bus::next_word(mem, f);
-    let g = w.f;
+    let g = w.flow;
     let a = lowered(r);
     let v = operand::get(r, 8 + op % 8);
     operand::put(r, 8 + op % 8, a);
-    operand::put(r, 15, std::num::wrapping_add_u32(a, bits::sign_word(w.v)));
+    operand::put(r, 15, std::num::wrapping_add_u32(a, bits::sign_word(w.value)));
     plan::writing(2, a, v, g)
 }
 
@@ -176,24 +176,24 @@ pub fn unlink(r: &mut [u32; 20], mem: &[u8], op: u32, f: Flow) -> Plan
 {
     let a = operand::get(r, 8 + op % 8);
     let w = bus::read_long(mem, a, 17, f);
-    let g = w.f;
+    let g = w.flow;
     operand::put(r, 15, std::num::wrapping_add_u32(a, 4));
-    operand::put(r, 8 + op % 8, w.v);
+    operand::put(r, 8 + op % 8, w.value);
     plan::nothing(g)
 }
 
 // The bytes at a and a + 2 as a word.
 fn every_other_word(mem: &[u8], a: u32, f: Flow) -> Fetched
     ensures { λ w. ⌜ w ≡ every-other-word (view-of (now (mem .entry))) a f ⌝ }
-    ensures { λ w. ⌜ w .v < 65536 ⌝ }
+    ensures { λ w. ⌜ w .value < 65536 ⌝ }
 {
     let h = bus::read_byte(mem, a, 17, f);
-    let hf = h.f;
+    let hf = h.flow;
     let l = bus::read_byte(mem, std::num::wrapping_add_u32(a, 2), 17, hf);
-    let lf = l.f;
+    let lf = l.flow;
     Fetched {
-        v: h.v * 256 + l.v,
-        f: lf,
+        value: h.value * 256 + l.value,
+        flow: lf,
     }
 }
 
@@ -202,14 +202,14 @@ fn every_other(mem: &[u8], a: u32, z: u32, f: Flow) -> Fetched
     ensures { λ w. ⌜ w ≡ every-other (view-of (now (mem .entry))) a z f ⌝ }
 {
     let h = every_other_word(mem, a, f);
-    let hf = h.f;
+    let hf = h.flow;
     let long = z == 2;
     if long {
         let l = every_other_word(mem, std::num::wrapping_add_u32(a, 4), hf);
-        let lf = l.f;
+        let lf = l.flow;
         return Fetched {
-            v: h.v * 65536 + l.v,
-            f: lf,
+            value: h.value * 65536 + l.value,
+            flow: lf,
         };
     }
     h
@@ -221,10 +221,10 @@ pub fn movep_to_register(r: &mut [u32; 20], mem: &[u8], op: u32, f: Flow) -> Pla
 {
     let z = 1 + op / 64 % 2;
     let q = operand::locate(r, mem, 5, op % 8, z, f);
-    let qf = q.f;
+    let qf = q.flow;
     let w = every_other(mem, q.at, z, qf);
-    let wf = w.f;
-    operand::put_low(r, op / 512 % 8, z, w.v);
+    let wf = w.flow;
+    operand::put_low(r, op / 512 % 8, z, w.value);
     plan::nothing(wf)
 }
 
@@ -234,7 +234,7 @@ pub fn movep_to_memory(r: &mut [u32; 20], mem: &[u8], op: u32, f: Flow) -> Plan
 {
     let z = 1 + op / 64 % 2;
     let q = operand::locate(r, mem, 5, op % 8, z, f);
-    let g = q.f;
+    let g = q.flow;
     let v = bits::cut(operand::get(r, op / 512 % 8) as u64, z);
     plan::writing(7 + z, q.at, v, g)
 }

@@ -5,7 +5,7 @@ ghost use mathlib.Core.Path.{_≡_};
 ghost use Prim.Native.Nat.{ℕ, _+_, _*_, _%_, _/_, _<_, _≤_};
 ghost use lib.ListN.{getD, set};
 ghost use Rattle.bus.specs.Bus.{view-of};
-ghost use Rattle.operand.specs.Operands.{get, put, step-of, in-register, in-memory, number, indirect, postincrement, predecrement, displaced, index-value, with-index, indexed, absolute-word, absolute-long, pc-displaced, pc-indexed, immediate, special, locate, load, put-low, with-flow, source, target, modify};
+ghost use Rattle.operand.specs.Operands.{get, put, increment, in-register, in-memory, number, indirect, postincrement, predecrement, displaced, index-value, with-index, indexed, absolute-word, absolute-long, pc-displaced, pc-indexed, immediate, special, locate, load, put-low, operand-with-flow, source, target, modify};
 use bus::Fetched;
 use bus::Flow;
 
@@ -14,15 +14,15 @@ use bus::Flow;
 pub struct Operand {
     pub kind: u32,
     pub at: u32,
-    pub k: u32,
+    pub access: u32,
     pub reg: u32,
     pub step: u32,
-    pub f: Flow,
+    pub flow: Flow,
 }
 
 // An operand that is read and will be written: its value, and its place with the flow after the read.
 pub struct Both {
-    pub v: u32,
+    pub value: u32,
     pub q: Operand,
 }
 
@@ -48,8 +48,8 @@ pub fn put(r: &mut [u32; 20], i: u32, v: u32)
 }
 
 // By how much (An)+ and -(An) step: a byte of A7 by 2.
-pub fn step_of(n: u32, z: u32) -> u32
-    ensures { λ q. ⌜ q ≡ step-of n z ⌝ }
+pub fn increment(n: u32, z: u32) -> u32
+    ensures { λ q. ⌜ q ≡ increment n z ⌝ }
 {
     let byte = z == 0;
     let word = z == 1;
@@ -69,10 +69,10 @@ fn in_register(i: u32, f: Flow) -> Operand
     Operand {
         kind: 0,
         at: i,
-        k: 0,
+        access: 0,
         reg: 17,
         step: 0,
-        f,
+        flow: f,
     }
 }
 
@@ -82,10 +82,10 @@ fn in_memory(a: u32, k: u32, reg: u32, step: u32, f: Flow) -> Operand
     Operand {
         kind: 1,
         at: a,
-        k,
+        access: k,
         reg,
         step,
-        f,
+        flow: f,
     }
 }
 
@@ -95,10 +95,10 @@ fn number(v: u32, f: Flow) -> Operand
     Operand {
         kind: 2,
         at: v,
-        k: 0,
+        access: 0,
         reg: 17,
         step: 0,
-        f,
+        flow: f,
     }
 }
 
@@ -117,7 +117,7 @@ fn postincrement(r: &[u32; 20], n: u32, z: u32, f: Flow) -> Operand
         a,
         17,
         8 + n % 8,
-        std::num::wrapping_add_u32(a, step_of(n, z)),
+        std::num::wrapping_add_u32(a, increment(n, z)),
         f,
     )
 }
@@ -125,7 +125,7 @@ fn postincrement(r: &[u32; 20], n: u32, z: u32, f: Flow) -> Operand
 fn predecrement(r: &[u32; 20], n: u32, z: u32, f: Flow) -> Operand
     ensures { λ q. ⌜ q ≡ predecrement (now (r .entry)) n z f ⌝ }
 {
-    let a = bits::minus(get(r, 8 + n % 8), step_of(n, z));
+    let a = bits::minus(get(r, 8 + n % 8), increment(n, z));
     in_memory(a, 17, 8 + n % 8, a, f)
 }
 
@@ -133,8 +133,8 @@ fn displaced(r: &[u32; 20], mem: &[u8], n: u32, f: Flow) -> Operand
     ensures { λ q. ⌜ q ≡ displaced (now (r .entry)) (view-of (now (mem .entry))) n f ⌝ }
 {
     let w = bus::next_word(mem, f);
-    let g = w.f;
-    let a = std::num::wrapping_add_u32(get(r, 8 + n % 8), bits::sign_word(w.v));
+    let g = w.flow;
+    let a = std::num::wrapping_add_u32(get(r, 8 + n % 8), bits::sign_word(w.value));
     in_memory(a, 17, 17, 0, g)
 }
 
@@ -162,8 +162,8 @@ fn indexed(r: &[u32; 20], mem: &[u8], n: u32, f: Flow) -> Operand
     ensures { λ q. ⌜ q ≡ indexed (now (r .entry)) (view-of (now (mem .entry))) n f ⌝ }
 {
     let w = bus::next_word(mem, f);
-    let g = w.f;
-    let a = with_index(r, get(r, 8 + n % 8), w.v);
+    let g = w.flow;
+    let a = with_index(r, get(r, 8 + n % 8), w.value);
     in_memory(a, 17, 17, 0, g)
 }
 
@@ -171,16 +171,16 @@ fn absolute_word(mem: &[u8], f: Flow) -> Operand
     ensures { λ q. ⌜ q ≡ absolute-word (view-of (now (mem .entry))) f ⌝ }
 {
     let w = bus::next_word(mem, f);
-    let g = w.f;
-    in_memory(bits::sign_word(w.v), 17, 17, 0, g)
+    let g = w.flow;
+    in_memory(bits::sign_word(w.value), 17, 17, 0, g)
 }
 
 fn absolute_long(mem: &[u8], f: Flow) -> Operand
     ensures { λ q. ⌜ q ≡ absolute-long (view-of (now (mem .entry))) f ⌝ }
 {
     let w = bus::next_long(mem, f);
-    let g = w.f;
-    in_memory(w.v, 17, 17, 0, g)
+    let g = w.flow;
+    in_memory(w.value, 17, 17, 0, g)
 }
 
 fn pc_displaced(mem: &[u8], f: Flow) -> Operand
@@ -188,9 +188,9 @@ fn pc_displaced(mem: &[u8], f: Flow) -> Operand
 {
     let pc = f.pc;
     let w = bus::next_word(mem, f);
-    let g = w.f;
+    let g = w.flow;
     in_memory(
-        std::num::wrapping_add_u32(pc, bits::sign_word(w.v)),
+        std::num::wrapping_add_u32(pc, bits::sign_word(w.value)),
         18,
         17,
         0,
@@ -203,8 +203,8 @@ fn pc_indexed(r: &[u32; 20], mem: &[u8], f: Flow) -> Operand
 {
     let pc = f.pc;
     let w = bus::next_word(mem, f);
-    let g = w.f;
-    in_memory(with_index(r, pc, w.v), 18, 17, 0, g)
+    let g = w.flow;
+    in_memory(with_index(r, pc, w.value), 18, 17, 0, g)
 }
 
 pub fn immediate(mem: &[u8], z: u32, f: Flow) -> Operand
@@ -213,12 +213,12 @@ pub fn immediate(mem: &[u8], z: u32, f: Flow) -> Operand
     let long = 2 <= z;
     if long {
         let w = bus::next_long(mem, f);
-        let g = w.f;
-        return number(w.v, g);
+        let g = w.flow;
+        return number(w.value, g);
     }
     let w = bus::next_word(mem, f);
-    let g = w.f;
-    number(w.v, g)
+    let g = w.flow;
+    number(w.value, g)
 }
 
 // Mode 7, by its register number.
@@ -258,13 +258,13 @@ pub fn load(r: &[u32; 20], mem: &[u8], p: Operand, z: u32, f: Flow) -> Fetched
     let at = p.at;
     match kind {
         0 => Fetched {
-            v: bits::cut(get(r, at) as u64, z),
-            f,
+            value: bits::cut(get(r, at) as u64, z),
+            flow: f,
         },
-        1 => bus::read_sized(mem, at, z, p.k, f),
+        1 => bus::read_sized(mem, at, z, p.access, f),
         _ => Fetched {
-            v: bits::cut(at as u64, z),
-            f,
+            value: bits::cut(at as u64, z),
+            flow: f,
         },
     }
 }
@@ -279,16 +279,16 @@ pub fn put_low(r: &mut [u32; 20], i: u32, z: u32, v: u32)
     put(r, i, bits::joined(old, a, b));
 }
 
-fn with_flow(q: Operand, f: Flow) -> Operand
-    ensures { λ o. ⌜ o ≡ with-flow q f ⌝ }
+fn operand_with_flow(q: Operand, f: Flow) -> Operand
+    ensures { λ o. ⌜ o ≡ operand-with-flow q f ⌝ }
 {
     Operand {
         kind: q.kind,
         at: q.at,
-        k: q.k,
+        access: q.access,
         reg: q.reg,
         step: q.step,
-        f,
+        flow: f,
     }
 }
 
@@ -298,7 +298,7 @@ pub fn source(r: &mut [u32; 20], mem: &[u8], mode: u32, n: u32, z: u32, f: Flow)
     ensures { λ w. ⌜ now (r .exit) ≡ source (now (r .entry)) (view-of (now (mem .entry))) mode n z f .r ⌝ }
 {
     let p = locate(r, mem, mode, n, z, f);
-    let g = p.f;
+    let g = p.flow;
     let w = load(r, mem, p, z, g);
     put(r, p.reg, p.step);
     w
@@ -320,10 +320,10 @@ pub fn modify(r: &mut [u32; 20], mem: &[u8], mode: u32, n: u32, z: u32, f: Flow)
     ensures { λ b. ⌜ now (r .exit) ≡ modify (now (r .entry)) (view-of (now (mem .entry))) mode n z f .r ⌝ }
 {
     let p = locate(r, mem, mode, n, z, f);
-    let g = p.f;
+    let g = p.flow;
     let w = load(r, mem, p, z, g);
     put(r, p.reg, p.step);
-    let h = w.f;
-    let q = with_flow(p, h);
-    Both { v: w.v, q }
+    let h = w.flow;
+    let q = operand_with_flow(p, h);
+    Both { value: w.value, q }
 }

@@ -12,11 +12,11 @@ use operand::Operand;
 // list, and 65,536 times the register that the list's address came from), 8 and 9 MOVEP's two and four bytes. `event` is 0, the vector of a trap, or
 // 256 for a stop; a plan with a trap writes nothing. `f` has the new PC and SR, and the fault if there is one: then nothing of this is done.
 pub struct Plan {
-    pub z: u32,
+    pub write: u32,
     pub at: u32,
-    pub v: u32,
-    pub event: u32,
-    pub f: Flow,
+    pub value: u32,
+    pub vector: u32,
+    pub flow: Flow,
 }
 
 // The flow with other flags.
@@ -30,18 +30,18 @@ pub fn flagged(f: Flow, c: u32) -> Flow
 pub fn jump(f: Flow, to: u32) -> Flow
     ensures { λ g. ⌜ g ≡ jump f to ⌝ }
 {
-    bus::moved(f, to)
+    bus::with_pc(f, to)
 }
 
 pub fn nothing(f: Flow) -> Plan
     ensures { λ p. ⌜ p ≡ nothing f ⌝ }
 {
     Plan {
-        z: 3,
+        write: 3,
         at: 0,
-        v: 0,
-        event: 0,
-        f,
+        value: 0,
+        vector: 0,
+        flow: f,
     }
 }
 
@@ -50,11 +50,11 @@ pub fn trapping(vec: u32, f: Flow) -> Plan
     ensures { λ p. ⌜ p ≡ trapping vec f ⌝ }
 {
     Plan {
-        z: 3,
+        write: 3,
         at: 0,
-        v: 0,
-        event: vec,
-        f,
+        value: 0,
+        vector: vec,
+        flow: f,
     }
 }
 
@@ -62,7 +62,7 @@ pub fn trapping(vec: u32, f: Flow) -> Plan
 pub fn refusing(vec: u32, own: u32, f: Flow) -> Plan
     ensures { λ p. ⌜ p ≡ refusing vec own f ⌝ }
 {
-    trapping(vec, bus::moved(f, own))
+    trapping(vec, bus::with_pc(f, own))
 }
 
 pub fn stopping(f: Flow) -> Plan
@@ -75,11 +75,11 @@ pub fn writing(z: u32, at: u32, v: u32, f: Flow) -> Plan
     ensures { λ p. ⌜ p ≡ writing z at v f ⌝ }
 {
     Plan {
-        z,
+        write: z,
         at,
-        v,
-        event: 0,
-        f,
+        value: v,
+        vector: 0,
+        flow: f,
     }
 }
 
@@ -90,14 +90,14 @@ pub fn finish(r: &mut [u32; 20], q: Operand, z: u32, a: Flagged) -> Plan
 {
     let kind = q.kind;
     let at = q.at;
-    let f = q.f;
-    let g = flagged(f, a.c);
+    let f = q.flow;
+    let g = flagged(f, a.ccr);
     let inside = kind == 0;
     if inside {
-        operand::put_low(r, at, z, a.v);
+        operand::put_low(r, at, z, a.value);
         return nothing(g);
     }
-    writing(z, at, a.v, g)
+    writing(z, at, a.value, g)
 }
 
 // A long on the stack.

@@ -93,5 +93,5 @@ pub fn shift(kind: u32, left: bool, v: u32, n: u32, z: u32, old: u32) -> flags::
     let t = places(start, n % 64, kind, left, z);
     let h = bits::half_of(z);
     let c = flags::flags(t.x, h <= t.v, t.v == 0, t.changed, t.out);
-    flags::Flagged { v: t.v, c }
+    flags::Flagged { value: t.v, ccr: c }
 }

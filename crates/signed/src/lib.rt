@@ -9,8 +9,8 @@ ghost use Rattle.signed.specs.Signed.{signed-long, signed-word, low-long
 
 // What a division leaves: the register, the five flags, and whether the divisor was 0.
 pub struct Divided {
-    pub v: u32,
-    pub c: u32,
+    pub value: u32,
+    pub ccr: u32,
     pub zero: bool,
 }
 
@@ -80,7 +80,7 @@ fn product_result(v: u32, old: u32) -> flags::Flagged
     ensures { λ r. ⌜ r ≡ product-result v old ⌝ }
 {
     let c = flags::flags(flags::x_of(old), 2147483648 <= v, v == 0, false, false);
-    flags::Flagged { v, c }
+    flags::Flagged { value: v, ccr: c }
 }
 
 // MULS: the low words as signed numbers.
@@ -103,8 +103,8 @@ fn zero_divide(a: u32, old: u32) -> Divided
 {
     let c = flags::flags(flags::x_of(old), false, false, false, false);
     Divided {
-        v: a,
-        c,
+        value: a,
+        ccr: c,
         zero: true,
     }
 }
@@ -117,16 +117,16 @@ fn quotient_result(over: bool, q: u32, r: u32, a: u32, old: u32) -> Divided
     if over {
         let kept = flags::flags(x, flags::n_of(old), flags::z_of(old), true, false);
         return Divided {
-            v: a,
-            c: kept,
+            value: a,
+            ccr: kept,
             zero: false,
         };
     }
     let w = q % 65536;
     let c = flags::flags(x, 32768 <= w, w == 0, false, false);
     Divided {
-        v: r % 65536 * 65536 + w,
-        c,
+        value: r % 65536 * 65536 + w,
+        ccr: c,
         zero: false,
     }
 }

@@ -27,7 +27,7 @@ use Rattle.plan.specs.declared.Plan.{Plan}
 use Rattle.bank.specs.Bank.{ssp-of, pc-of, sr-of, mode-of, supervisor, tracing, long, bank, sr-after, mode-after, settle}
 use Rattle.exception.specs.Exceptions.{Stepped, fresh, supervisor-sr, halted, enter, small-room, small-frame, exception, big-room, big-frame, fault-taken, fault}
 use Rattle.step.specs.declared.Tried.{Tried}
-use Rattle.step.specs.Steps.{conclude, attempt, commit, trap-of, trap, traced, both, after, instruction, interrupt-sr, interrupt, one-step}
+use Rattle.step.specs.Steps.{conclude, attempt, commit, trap-of, take-trap, traced, both, carry-out, instruction, interrupt-sr, interrupt, one-step}
 use Rattle.step.proofs.PlacesLaws.{pick-cases, each-at, each-set, Touches, touches-none, touches-then, touches-most, writes-of-small-frame, writes-of-big-frame, writes-of-commit}
 use Rattle.step.proofs.SlotsLaws.{twenty-of-one-step}
 
@@ -138,7 +138,7 @@ sound-set s k v h ok =
 pub sound-of-enter : (s : List ℕ) (v : View) (a vec sr : ℕ) → Sound s → a < 2 ^ 32 → Status sr → Sound (enter s v a vec sr)
 unfolding enter valid-value
 sound-of-enter s v a vec sr h ha hs =
-    let pc = long (read-long v (vec % 256 * 4) 17 (fresh 0 0) .v) in
+    let pc = long (read-long v (vec % 256 * 4) 17 (fresh 0 0) .value) in
     let h1 = sound-set s 16 a h (refl, ha) in
     let h2 = sound-set (set s 16 a) 17 pc h1 (refl, omega arith) in
     let h3 = sound-set (set (set s 16 a) 17 pc) 18 sr h2 hs in
@@ -152,12 +152,12 @@ pub sound-of-settle : (s r : List ℕ) (p : Plan) → Sound s → Sound (settle 
 unfolding settle valid-value
 sound-of-settle s r p h =
     let w : (x : ℕ) → (_≡_ {A = Bool} true true) × (long x < 2 ^ 32) = λ x. (refl, omega arith) in
-    let sr = status-of-write (sr-of s) (status-of-sound s h) (p .f .sr) in
-    let mode = mode-bound (sr-of s) (p .event) in
+    let sr = status-of-write (sr-of s) (status-of-sound s h) (p .flow .sr) in
+    let mode = mode-bound (sr-of s) (p .vector) in
     record {
       slots = refl;
       values =
-          (w _, (w _, (w _, (w _, (w _, (w _, (w _, (w _, (w _, (w _, (w _, (w _, (w _, (w _, (w _, (w _, (w _, (w _, (sr, ((lt-ltb (mode-after (sr-of s) (p .event)) 3 (omega arith), omega arith), tt))))))))))))))))))));
+          (w _, (w _, (w _, (w _, (w _, (w _, (w _, (w _, (w _, (w _, (w _, (w _, (w _, (w _, (w _, (w _, (w _, (w _, (sr, ((lt-ltb (mode-after (sr-of s) (p .vector)) 3 (omega arith), omega arith), tt))))))))))))))))))));
     }
 
 -- ---- an outcome
@@ -199,9 +199,9 @@ module _ (s m : List ℕ) (hs : Sound s) (hm : ValidBytes m) where
       })
       (reaches-of-halted 14)
 
-  pub reaches-of-trap : (vec : ℕ) → Reaches 6 m (trap s m vec)
-  unfolding trap
-  reaches-of-trap vec =
+  pub reaches-of-take-trap : (vec : ℕ) → Reaches 6 m (take-trap s m vec)
+  unfolding take-trap
+  reaches-of-take-trap vec =
       pick-cases (Reaches 6 m) (ltb 0 vec)
       (reaches-of-exception vec (supervisor-sr (sr-of s)) (status-of-supervisor (sr-of s) (status-of-sound s hs)))
       (reaches-of-still 6)
@@ -215,17 +215,17 @@ module _ (s m : List ℕ) (hs : Sound s) (hm : ValidBytes m) where
   pub reaches-of-both : (vec : ℕ) (trace : Bool) → Reaches 12 m (both s m vec trace)
   unfolding both
   reaches-of-both vec trace =
-      let a = trap s m vec in
-      let x = reaches-of-trap s m hs hm vec in
-      let y = reaches-of-trap (a .s) (a .m) (x .slots) (x .memory .bytes) (traced vec trace (a .event)) in
+      let a = take-trap s m vec in
+      let x = reaches-of-take-trap s m hs hm vec in
+      let y = reaches-of-take-trap (a .s) (a .m) (x .slots) (x .memory .bytes) (traced vec trace (a .event)) in
       record { slots = y .slots; memory = touches-then (x .memory) (y .memory) }
 
-  pub reaches-of-after : (r : List ℕ) (p : Plan) (trace : Bool) → Reaches 70 m (after s m r p trace)
-  unfolding after
-  reaches-of-after r p trace =
+  pub reaches-of-carry-out : (r : List ℕ) (p : Plan) (trace : Bool) → Reaches 70 m (carry-out s m r p trace)
+  unfolding carry-out
+  reaches-of-carry-out r p trace =
       let w = writes-of-commit r p .touch m hm in
-      let x = reaches-of-trap s (commit m r p) hs (w .bytes) (pick trace 9 0) in
-      pick-cases (Reaches 70 m) (eqb (p .z) 3)
+      let x = reaches-of-take-trap s (commit m r p) hs (w .bytes) (pick trace 9 0) in
+      pick-cases (Reaches 70 m) (eqb (p .write) 3)
       (reaches-most (reaches-of-both (trap-of p) trace) (omega arith))
       (record { slots = x .slots; memory = touches-then w (x .memory) })
 
@@ -234,9 +234,9 @@ module _ (s m : List ℕ) (hs : Sound s) (hm : ValidBytes m) where
   unfolding conclude
   reaches-of-conclude r t =
       let p = t .p in
-      pick-cases (Reaches 70 m) (eqb (p .f .bad) 0)
-      (reaches-of-after (settle s r p) m (sound-of-settle s r p hs) hm r p (tracing (sr-of s)))
-      (reaches-most (reaches-of-fault s m hs hm (p .f .bad) (t .op)) (omega arith))
+      pick-cases (Reaches 70 m) (eqb (p .flow .bad) 0)
+      (reaches-of-carry-out (settle s r p) m (sound-of-settle s r p hs) hm r p (tracing (sr-of s)))
+      (reaches-most (reaches-of-fault s m hs hm (p .flow .bad) (t .op)) (omega arith))
 
   pub reaches-of-instruction : Reaches 70 m (instruction s m)
   unfolding instruction

@@ -15,7 +15,7 @@ use Rattle.plan.specs.declared.Plan.{Plan}
 use Rattle.bank.specs.Bank.{long, ssp-of, pc-of, sr-of, mode-of, tracing, bank, settle}
 use Rattle.exception.specs.Exceptions.{Stepped, fresh, supervisor-sr, halted, enter, small-room, exception, big-room, fault-taken, fault}
 use Rattle.step.specs.declared.Tried.{Tried}
-use Rattle.step.specs.Steps.{conclude, attempt, commit, trap-of, trap, traced, both, after, instruction, interrupt-sr, interrupt, one-step}
+use Rattle.step.specs.Steps.{conclude, attempt, commit, trap-of, take-trap, traced, both, carry-out, instruction, interrupt-sr, interrupt, one-step}
 use Rattle.step.proofs.PlacesLaws.{pick-cases}
 
 abbrev pub Twenty : Stepped → Type 0
@@ -28,7 +28,7 @@ module _ (s m : List ℕ) (h : length s ≡ slot-limit) where
   twenty-of-enter : (v : View) (a vec sr : ℕ) → length (enter s v a vec sr) ≡ slot-limit
   unfolding enter
   twenty-of-enter v a vec sr =
-      let pc = long (read-long v (vec % 256 * 4) 17 (fresh 0 0) .v) in
+      let pc = long (read-long v (vec % 256 * 4) 17 (fresh 0 0) .value) in
       let s₁ = set s 16 a in
       let s₂ = set s₁ 17 pc in
       twenty-of-set (set s₂ 18 sr) 19 0 (twenty-of-set s₂ 18 sr (twenty-of-set s₁ 17 pc (twenty-of-set s 16 a h)))
@@ -44,19 +44,19 @@ module _ (s m : List ℕ) (h : length s ≡ slot-limit) where
   unfolding fault fault-taken
   twenty-of-fault bad op = pick-cases Twenty (big-room (view-of m) (minus (ssp-of s) 14)) (twenty-of-enter _ _ _ _) twenty-of-halted
 
-  twenty-of-trap : (vec : ℕ) → Twenty (trap s m vec)
-  unfolding trap
-  twenty-of-trap vec = pick-cases Twenty (ltb 0 vec) (twenty-of-exception vec (supervisor-sr (sr-of s))) h
+  twenty-of-take-trap : (vec : ℕ) → Twenty (take-trap s m vec)
+  unfolding take-trap
+  twenty-of-take-trap vec = pick-cases Twenty (ltb 0 vec) (twenty-of-exception vec (supervisor-sr (sr-of s))) h
 
 module _ (s m : List ℕ) (h : length s ≡ slot-limit) where
   twenty-of-both : (vec : ℕ) (trace : Bool) → Twenty (both s m vec trace)
   unfolding both
   twenty-of-both vec trace =
-      let a = trap s m vec in twenty-of-trap (a .s) (a .m) (twenty-of-trap s m h vec) (traced vec trace (a .event))
+      let a = take-trap s m vec in twenty-of-take-trap (a .s) (a .m) (twenty-of-take-trap s m h vec) (traced vec trace (a .event))
 
-  twenty-of-after : (r : List ℕ) (p : Plan) (trace : Bool) → Twenty (after s m r p trace)
-  unfolding after
-  twenty-of-after r p trace = pick-cases Twenty (eqb (p .z) 3) (twenty-of-both (trap-of p) trace) (twenty-of-trap s (commit m r p) h (pick trace 9 0))
+  twenty-of-carry-out : (r : List ℕ) (p : Plan) (trace : Bool) → Twenty (carry-out s m r p trace)
+  unfolding carry-out
+  twenty-of-carry-out r p trace = pick-cases Twenty (eqb (p .write) 3) (twenty-of-both (trap-of p) trace) (twenty-of-take-trap s (commit m r p) h (pick trace 9 0))
 
 module _ (s m : List ℕ) (h : length s ≡ slot-limit) where
   twenty-of-settle : (r : List ℕ) (p : Plan) → length (settle s r p) ≡ slot-limit
@@ -67,9 +67,9 @@ module _ (s m : List ℕ) (h : length s ≡ slot-limit) where
   unfolding conclude
   twenty-of-conclude r t =
       let p = t .p in
-      pick-cases Twenty (eqb (p .f .bad) 0)
-      (twenty-of-after (settle s r p) m (twenty-of-settle r p) r p (tracing (sr-of s)))
-      (twenty-of-fault s m h (p .f .bad) (t .op))
+      pick-cases Twenty (eqb (p .flow .bad) 0)
+      (twenty-of-carry-out (settle s r p) m (twenty-of-settle r p) r p (tracing (sr-of s)))
+      (twenty-of-fault s m h (p .flow .bad) (t .op))
 
   twenty-of-instruction : Twenty (instruction s m)
   unfolding instruction

@@ -18,7 +18,7 @@ use Rattle.bank.specs.Bank.{pc-of, sr-of, mode-of, tracing, bank, settle}
 use Rattle.exception.specs.Exceptions.{Stepped, fresh, supervisor-sr, exception, fault}
 use Rattle.execute.specs.Dispatch.{execute}
 use Rattle.step.specs.declared.Tried.{Tried}
-use Rattle.step.specs.Steps.{with-flow, checked, attempt, commit, trap-of, trap, traced, both, after, conclude, instruction, interrupt-sr, interrupt, one-step}
+use Rattle.step.specs.Steps.{plan-with-flow, checked, attempt, commit, trap-of, take-trap, traced, both, carry-out, conclude, instruction, interrupt-sr, interrupt, one-step}
 
 -- a part of an outcome
 module _ (x y : Stepped) (e : x ≡ y) where
@@ -36,141 +36,141 @@ abbrev still : List ℕ → List ℕ → Stepped
 still s m = record { s = s; m = m; event = 0 }
 
 module _ (v : View) (p q : Plan) (g : Flow) where
-  pub checked-none : eqb (p .z) 3 ≡ true → p ≡ checked v p
+  pub checked-none : eqb (p .write) 3 ≡ true → p ≡ checked v p
   unfolding checked
   checked-none t = cc
 
-  pub checked-one : eqb (p .z) 3 ≡ false → ltb (p .z) 3 ≡ true → g ≡ room v (p .at) (p .z) (p .f) → q ≡ with-flow p g → q ≡ checked v p
+  pub checked-one : eqb (p .write) 3 ≡ false → ltb (p .write) 3 ≡ true → g ≡ room v (p .at) (p .write) (p .flow) → q ≡ plan-with-flow p g → q ≡ checked v p
   unfolding checked
   checked-one t u e d = cc
 
-  pub checked-block : eqb (p .z) 3 ≡ false → ltb (p .z) 3 ≡ false → g ≡ block-room v p → q ≡ with-flow p g → q ≡ checked v p
+  pub checked-block : eqb (p .write) 3 ≡ false → ltb (p .write) 3 ≡ false → g ≡ block-room v p → q ≡ plan-with-flow p g → q ≡ checked v p
   unfolding checked
   checked-block t u e d = cc
 
 module _ (r t : List ℕ) (v : View) (f : Flow) (w : Fetched) (p q : Plan) (e : w ≡ next-word v f) where
-  pub attempt-tried : p ≡ execute r v (w .v) (w .f) .p → q ≡ checked v p → record { op = w .v; p = q } ≡ attempt r v f .t
+  pub attempt-tried : p ≡ execute r v (w .value) (w .flow) .p → q ≡ checked v p → record { op = w .value; p = q } ≡ attempt r v f .t
   unfolding attempt
   attempt-tried d h = cc
 
-  pub attempt-registers : t ≡ execute r v (w .v) (w .f) .r → t ≡ attempt r v f .r
+  pub attempt-registers : t ≡ execute r v (w .value) (w .flow) .r → t ≡ attempt r v f .r
   unfolding attempt
   attempt-registers d = cc
 
 module _ (m r o : List ℕ) (p : Plan) where
-  pub commit-one : ltb (p .z) 3 ≡ true → o ≡ put-sized m (p .at) (p .z) (p .v) → o ≡ commit m r p
+  pub commit-one : ltb (p .write) 3 ≡ true → o ≡ put-sized m (p .at) (p .write) (p .value) → o ≡ commit m r p
   unfolding commit
   commit-one t e = cc
 
-  pub commit-block : ltb (p .z) 3 ≡ false → o ≡ block-put m r p → o ≡ commit m r p
+  pub commit-block : ltb (p .write) 3 ≡ false → o ≡ block-put m r p → o ≡ commit m r p
   unfolding commit
   commit-block t e = cc
 
 module _ (p : Plan) where
-  pub trap-of-vector : ltb (p .event) 256 ≡ true → p .event ≡ trap-of p
+  pub trap-of-vector : ltb (p .vector) 256 ≡ true → p .vector ≡ trap-of p
   unfolding trap-of
   trap-of-vector t = cc
 
-  pub trap-of-stop : ltb (p .event) 256 ≡ false → 0 ≡ trap-of p
+  pub trap-of-stop : ltb (p .vector) 256 ≡ false → 0 ≡ trap-of p
   unfolding trap-of
   trap-of-stop t = cc
 
-  trap-of-nothing : p .event ≡ 0 → trap-of p ≡ 0
+  trap-of-nothing : p .vector ≡ 0 → trap-of p ≡ 0
   unfolding trap-of
   trap-of-nothing e = rw e
 
 module _ (s m : List ℕ) (vec : ℕ) where
-  pub trap-some : (sr : ℕ) → sr ≡ supervisor-sr (sr-of s) → ltb 0 vec ≡ true → exception s m vec sr ≡ trap s m vec
-  unfolding trap
-  trap-some sr e t = cc
+  pub take-trap-some : (sr : ℕ) → sr ≡ supervisor-sr (sr-of s) → ltb 0 vec ≡ true → exception s m vec sr ≡ take-trap s m vec
+  unfolding take-trap
+  take-trap-some sr e t = cc
 
-  pub trap-none-slots : ltb 0 vec ≡ false → s ≡ trap s m vec .s
-  unfolding trap
-  trap-none-slots t = cc
+  pub take-trap-none-slots : ltb 0 vec ≡ false → s ≡ take-trap s m vec .s
+  unfolding take-trap
+  take-trap-none-slots t = cc
 
-  pub trap-none-memory : ltb 0 vec ≡ false → m ≡ trap s m vec .m
-  unfolding trap
-  trap-none-memory t = cc
+  pub take-trap-none-memory : ltb 0 vec ≡ false → m ≡ take-trap s m vec .m
+  unfolding take-trap
+  take-trap-none-memory t = cc
 
-  pub trap-none-event : ltb 0 vec ≡ false → 0 ≡ trap s m vec .event
-  unfolding trap
-  trap-none-event t = cc
+  pub take-trap-none-event : ltb 0 vec ≡ false → 0 ≡ take-trap s m vec .event
+  unfolding take-trap
+  take-trap-none-event t = cc
 
 pub traced-is : (vec event b : ℕ) (trace : Bool) → b ≡ bit (trace && not (eqb vec 4 || eqb vec 8 || eqb vec 10 || eqb vec 11) && not (eqb event 257)) → b * 9 ≡ traced vec trace event
 unfolding traced
 traced-is vec event b trace e = cc
 
 -- a trap with outcome s₁, m₁, x, and the trace after it
-module _ (s m s₁ m₁ : List ℕ) (vec x y : ℕ) (trace : Bool) (e1 : s₁ ≡ trap s m vec .s) (e2 : m₁ ≡ trap s m vec .m) (e3 : x ≡ trap s m vec .event) (e4 : y ≡ traced vec trace x) where
-  pub both-slots : (t : List ℕ) → t ≡ trap s₁ m₁ y .s → t ≡ both s m vec trace .s
+module _ (s m s₁ m₁ : List ℕ) (vec x y : ℕ) (trace : Bool) (e1 : s₁ ≡ take-trap s m vec .s) (e2 : m₁ ≡ take-trap s m vec .m) (e3 : x ≡ take-trap s m vec .event) (e4 : y ≡ traced vec trace x) where
+  pub both-slots : (t : List ℕ) → t ≡ take-trap s₁ m₁ y .s → t ≡ both s m vec trace .s
   unfolding both
   both-slots t e = cc
 
-  pub both-memory : (t : List ℕ) → t ≡ trap s₁ m₁ y .m → t ≡ both s m vec trace .m
+  pub both-memory : (t : List ℕ) → t ≡ take-trap s₁ m₁ y .m → t ≡ both s m vec trace .m
   unfolding both
   both-memory t e = cc
 
-  pub both-second : (t : ℕ) → eqb x 0 ≡ true → t ≡ trap s₁ m₁ y .event → t ≡ both s m vec trace .event
+  pub both-second : (t : ℕ) → eqb x 0 ≡ true → t ≡ take-trap s₁ m₁ y .event → t ≡ both s m vec trace .event
   unfolding both
   both-second t h e = cc
 
-pub both-first : (s m : List ℕ) (vec x : ℕ) (trace : Bool) → x ≡ trap s m vec .event → eqb x 0 ≡ false → x ≡ both s m vec trace .event
+pub both-first : (s m : List ℕ) (vec x : ℕ) (trace : Bool) → x ≡ take-trap s m vec .event → eqb x 0 ≡ false → x ≡ both s m vec trace .event
 unfolding both
 both-first s m vec x trace e h = cc
 
 -- no trap and no trace
 both-quiet : (s m : List ℕ) → still s m ≡ both s m 0 false
-unfolding both trap traced
+unfolding both take-trap traced
 both-quiet s m = cc
 
 -- s₁ is what the code holds of the slots s
 module _ (s m r : List ℕ) (p : Plan) (trace : Bool) (s₁ : List ℕ) (d : s₁ ≡ s) where
-  module _ (t : eqb (p .z) 3 ≡ true) where
-    module _ (h : (eqb (p .event) 0 && not trace) ≡ true) where
-      quiet : still s₁ m ≡ after s m r p trace
-      unfolding after
+  module _ (t : eqb (p .write) 3 ≡ true) where
+    module _ (h : (eqb (p .vector) 0 && not trace) ≡ true) where
+      quiet : still s₁ m ≡ carry-out s m r p trace
+      unfolding carry-out
       quiet =
-          let none = trap-of-nothing p (eqb-true (p .event) 0 (and-left (eqb (p .event) 0) (not trace) h)) in
-          let untraced = not-true trace (and-right (eqb (p .event) 0) (not trace) h) in
+          let none = trap-of-nothing p (eqb-true (p .vector) 0 (and-left (eqb (p .vector) 0) (not trace) h)) in
+          let untraced = not-true trace (and-right (eqb (p .vector) 0) (not trace) h) in
           let b : still s m ≡ both s m (trap-of p) trace = rw (none, untraced) (both-quiet s m) in cc
 
-      pub after-quiet-slots : s₁ ≡ after s m r p trace .s
-      after-quiet-slots = ap (λ (x : Stepped). x .s) quiet
+      pub carry-out-quiet-slots : s₁ ≡ carry-out s m r p trace .s
+      carry-out-quiet-slots = ap (λ (x : Stepped). x .s) quiet
 
-      pub after-quiet-memory : m ≡ after s m r p trace .m
-      after-quiet-memory = ap (λ (x : Stepped). x .m) quiet
+      pub carry-out-quiet-memory : m ≡ carry-out s m r p trace .m
+      carry-out-quiet-memory = ap (λ (x : Stepped). x .m) quiet
 
-      pub after-quiet-event : 0 ≡ after s m r p trace .event
-      after-quiet-event = ap (λ (x : Stepped). x .event) quiet
+      pub carry-out-quiet-event : 0 ≡ carry-out s m r p trace .event
+      carry-out-quiet-event = ap (λ (x : Stepped). x .event) quiet
 
-    pub after-trap : (vec : ℕ) → vec ≡ trap-of p → both s₁ m vec trace ≡ after s m r p trace
-    unfolding after
-    after-trap vec e = cc
+    pub carry-out-trap : (vec : ℕ) → vec ≡ trap-of p → both s₁ m vec trace ≡ carry-out s m r p trace
+    unfolding carry-out
+    carry-out-trap vec e = cc
 
-  module _ (t : eqb (p .z) 3 ≡ false) (n : List ℕ) (e : n ≡ commit m r p) where
-    pub after-trace : trace ≡ true → trap s₁ n 9 ≡ after s m r p trace
-    unfolding after
-    after-trace h = cc
+  module _ (t : eqb (p .write) 3 ≡ false) (n : List ℕ) (e : n ≡ commit m r p) where
+    pub carry-out-trace : trace ≡ true → take-trap s₁ n 9 ≡ carry-out s m r p trace
+    unfolding carry-out
+    carry-out-trace h = cc
 
-    pub after-write-slots : trace ≡ false → s₁ ≡ after s m r p trace .s
-    unfolding after trap
-    after-write-slots h = cc
+    pub carry-out-write-slots : trace ≡ false → s₁ ≡ carry-out s m r p trace .s
+    unfolding carry-out take-trap
+    carry-out-write-slots h = cc
 
-    pub after-write-memory : trace ≡ false → n ≡ after s m r p trace .m
-    unfolding after trap
-    after-write-memory h = cc
+    pub carry-out-write-memory : trace ≡ false → n ≡ carry-out s m r p trace .m
+    unfolding carry-out take-trap
+    carry-out-write-memory h = cc
 
-    pub after-write-event : trace ≡ false → 0 ≡ after s m r p trace .event
-    unfolding after trap
-    after-write-event h = cc
+    pub carry-out-write-event : trace ≡ false → 0 ≡ carry-out s m r p trace .event
+    unfolding carry-out take-trap
+    carry-out-write-event h = cc
 
 -- the end of an instruction: t is what was tried, r the registers then
 module _ (s m r : List ℕ) (t : Tried) where
-  pub conclude-fine : (b : Bool) → eqb (t .p .f .bad) 0 ≡ true → b ≡ tracing (sr-of s) → after (settle s r (t .p)) m r (t .p) b ≡ conclude s m r t
+  pub conclude-fine : (b : Bool) → eqb (t .p .flow .bad) 0 ≡ true → b ≡ tracing (sr-of s) → carry-out (settle s r (t .p)) m r (t .p) b ≡ conclude s m r t
   unfolding conclude
   conclude-fine b h e = cc
 
-  pub conclude-faults : eqb (t .p .f .bad) 0 ≡ false → fault s m (t .p .f .bad) (t .op) ≡ conclude s m r t
+  pub conclude-faults : eqb (t .p .flow .bad) 0 ≡ false → fault s m (t .p .flow .bad) (t .op) ≡ conclude s m r t
   unfolding conclude
   conclude-faults h = cc
 

@@ -16,14 +16,14 @@ use Rattle.execute.specs.Dispatch.{execute}
 use Rattle.step.specs.declared.Tried.{Tried}
 
 -- the plan with another flow  [ours]
-abbrev pub with-flow : Plan → Flow → Plan
-with-flow p f = record { z = p .z; at = p .at; v = p .v; event = p .event; f = f }
+abbrev pub plan-with-flow : Plan → Flow → Plan
+plan-with-flow p f = record { write = p .write; at = p .at; value = p .value; vector = p .vector; flow = f }
 
 -- a write needs room: else it is the fault of its first failing word  [01 step 6] [01 step 7]
 unfoldable pub checked : View → Plan → Plan
 checked v p =
-    pick (eqb (p .z) 3) p
-    (pick (ltb (p .z) 3) (with-flow p (room v (p .at) (p .z) (p .f))) (with-flow p (block-room v p)))
+    pick (eqb (p .write) 3) p
+    (pick (ltb (p .write) 3) (plan-with-flow p (room v (p .at) (p .write) (p .flow))) (plan-with-flow p (block-room v p)))
 
 -- an operation word and its instruction, up to its writes: it sees the registers, PC, SR and the view of memory  [01 step 6]
 pub record Attempt : Type 0 where
@@ -33,20 +33,20 @@ pub record Attempt : Type 0 where
 unfoldable pub attempt : List ℕ → View → Flow → Attempt
 attempt r v f =
     let w = next-word v f in
-    let d = execute r v (w .v) (w .f) in
-    record { r = d .r; t = record { op = w .v; p = checked v (d .p) } }
+    let d = execute r v (w .value) (w .flow) in
+    record { r = d .r; t = record { op = w .value; p = checked v (d .p) } }
 
 -- the write of a plan that has one  [01 step 6]
 unfoldable pub commit : List ℕ → List ℕ → Plan → List ℕ
-commit m r p = pick (ltb (p .z) 3) (put-sized m (p .at) (p .z) (p .v)) (block-put m r p)
+commit m r p = pick (ltb (p .write) 3) (put-sized m (p .at) (p .write) (p .value)) (block-put m r p)
 
 -- the vector of a plan's trap, or 0; event 256 is a stop  [01 step 2]
 unfoldable pub trap-of : Plan → ℕ
-trap-of p = pick (ltb (p .event) 256) (p .event) 0
+trap-of p = pick (ltb (p .vector) 256) (p .vector) 0
 
 -- vector 0 stands for none here  [ours]
-unfoldable pub trap : List ℕ → List ℕ → ℕ → Stepped
-trap s m vec = pick (ltb 0 vec) (exception s m vec (supervisor-sr (sr-of s))) (record { s = s; m = m; event = 0 })
+unfoldable pub take-trap : List ℕ → List ℕ → ℕ → Stepped
+take-trap s m vec = pick (ltb 0 vec) (exception s m vec (supervisor-sr (sr-of s))) (record { s = s; m = m; event = 0 })
 
 -- trace, vector 9, follows if T was 1 at the start, unless the instruction was refused by 4, 8, 10, 11 or the machine halted  [01 step 5]
 unfoldable pub traced : ℕ → Bool → ℕ → ℕ
@@ -55,19 +55,19 @@ traced vec trace event = bit (trace && not (eqb vec 4 || eqb vec 8 || eqb vec 10
 -- the trap, then the trace, whose "next" is the trap's handler; the first event counts  [01 step 3] [01 step 5]
 unfoldable pub both : List ℕ → List ℕ → ℕ → Bool → Stepped
 both s m vec trace =
-    let a = trap s m vec in
-    let b = trap (a .s) (a .m) (traced vec trace (a .event)) in
+    let a = take-trap s m vec in
+    let b = take-trap (a .s) (a .m) (traced vec trace (a .event)) in
     record { s = b .s; m = b .m; event = pick (eqb (a .event) 0) (b .event) (a .event) }
 
 -- an instruction that writes takes no trap; one that takes a trap writes nothing  [01 step 5] [01 step 6]
-unfoldable pub after : List ℕ → List ℕ → List ℕ → Plan → Bool → Stepped
-after s m r p trace = pick (eqb (p .z) 3) (both s m (trap-of p) trace) (trap s (commit m r p) (pick trace 9 0))
+unfoldable pub carry-out : List ℕ → List ℕ → List ℕ → Plan → Bool → Stepped
+carry-out s m r p trace = pick (eqb (p .write) 3) (both s m (trap-of p) trace) (take-trap s (commit m r p) (pick trace 9 0))
 
 -- the end of an instruction; one that faults keeps nothing of its work  [01 step 7]
 unfoldable pub conclude : List ℕ → List ℕ → List ℕ → Tried → Stepped
 conclude s m r t =
     let p = t .p in
-    pick (eqb (p .f .bad) 0) (after (settle s r p) m r p (tracing (sr-of s))) (fault s m (p .f .bad) (t .op))
+    pick (eqb (p .flow .bad) 0) (carry-out (settle s r p) m r p (tracing (sr-of s))) (fault s m (p .flow .bad) (t .op))
 
 -- one instruction  [01 One step]
 unfoldable pub instruction : List ℕ → List ℕ → Stepped

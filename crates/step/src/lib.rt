@@ -7,20 +7,20 @@ ghost use lib.ListN.{length};
 ghost use Rattle.bank.specs.Bank.{settle};
 ghost use Rattle.bus.specs.Bus.{view-of};
 ghost use Rattle.touch.specs.Touch.{LogOk, Noted};
-ghost use Rattle.step.specs.Steps.{with-flow, checked, attempt, commit, trap-of, trap, traced, both, after, conclude, instruction, interrupt-sr, interrupt, one-step};
+ghost use Rattle.step.specs.Steps.{plan-with-flow, checked, attempt, commit, trap-of, take-trap, traced, both, carry-out, conclude, instruction, interrupt-sr, interrupt, one-step};
 use bus::Flow;
 use exception::Ended;
 use plan::Plan;
 
-fn with_flow(p: Plan, f: Flow) -> Plan
-    ensures { λ q. ⌜ q ≡ with-flow p f ⌝ }
+fn plan_with_flow(p: Plan, f: Flow) -> Plan
+    ensures { λ q. ⌜ q ≡ plan-with-flow p f ⌝ }
 {
     Plan {
-        z: p.z,
+        write: p.write,
         at: p.at,
-        v: p.v,
-        event: p.event,
-        f,
+        value: p.value,
+        vector: p.vector,
+        flow: f,
     }
 }
 
@@ -28,16 +28,16 @@ fn with_flow(p: Plan, f: Flow) -> Plan
 fn checked(mem: &[u8], p: Plan) -> Plan
     ensures { λ q. ⌜ q ≡ checked (view-of (now (mem .entry))) p ⌝ }
 {
-    let f = p.f;
-    let none = p.z == 3;
-    let one = p.z < 3;
+    let f = p.flow;
+    let none = p.write == 3;
+    let one = p.write < 3;
     if none {
         return p;
     }
     if one {
-        return with_flow(p, bus::room(mem, p.at, p.z, f));
+        return plan_with_flow(p, bus::room(mem, p.at, p.write, f));
     }
-    with_flow(p, movem::block_room(mem, p))
+    plan_with_flow(p, movem::block_room(mem, p))
 }
 
 // An operation word, and what is to be done for it.
@@ -52,10 +52,10 @@ fn attempt(r: &mut [u32; 20], mem: &[u8], f: Flow) -> Tried
     ensures { λ t. ⌜ now (r .exit) ≡ attempt (now (r .entry)) (view-of (now (mem .entry))) f .r ⌝ }
 {
     let w = bus::next_word(mem, f);
-    let g = w.f;
-    let p = execute::execute(r, mem, w.v, g);
+    let g = w.flow;
+    let p = execute::execute(r, mem, w.value, g);
     let q = checked(mem, p);
-    Tried { op: w.v, p: q }
+    Tried { op: w.value, p: q }
 }
 
 // The write of a plan that has one.
@@ -64,9 +64,9 @@ fn commit(mem: &mut [u8], log: &mut [u64], r: &[u32; 20], p: Plan) -> usize
     ensures { λ _. ⌜ now (mem .exit) ≡ commit (now (mem .entry)) (now (r .entry)) p ⌝ }
     ensures { λ k. ⌜ Noted (now (mem .entry)) (now (log .entry)) 0 64 (now (mem .exit)) (now (log .exit)) k ⌝ }
 {
-    let one = p.z < 3;
+    let one = p.write < 3;
     if one {
-        return store::store_sized(mem, log, 0, p.at, p.z, p.v);
+        return store::store_sized(mem, log, 0, p.at, p.write, p.value);
     }
     movem::block_store(mem, log, 0, r, p)
 }
@@ -75,19 +75,19 @@ fn commit(mem: &mut [u8], log: &mut [u64], r: &[u32; 20], p: Plan) -> usize
 fn trap_of(p: Plan) -> u32
     ensures { λ q. ⌜ q ≡ trap-of p ⌝ }
 {
-    let some = p.event < 256;
+    let some = p.vector < 256;
     if some {
-        return p.event;
+        return p.vector;
     }
     0
 }
 
 // The exception of a vector, and nothing for vector 0.
-fn trap(s: &mut [u32; 20], mem: &mut [u8], log: &mut [u64], n: usize, vec: u32) -> Ended
+fn take_trap(s: &mut [u32; 20], mem: &mut [u8], log: &mut [u64], n: usize, vec: u32) -> Ended
     requires { ⌜ LogOk (now mem) (now log) n × (n + 6 ≤ length (now log)) ⌝ }
-    ensures { λ _. ⌜ now (s .exit) ≡ trap (now (s .entry)) (now (mem .entry)) vec .s ⌝ }
-    ensures { λ _. ⌜ now (mem .exit) ≡ trap (now (s .entry)) (now (mem .entry)) vec .m ⌝ }
-    ensures { λ e. ⌜ e .event ≡ trap (now (s .entry)) (now (mem .entry)) vec .event ⌝ }
+    ensures { λ _. ⌜ now (s .exit) ≡ take-trap (now (s .entry)) (now (mem .entry)) vec .s ⌝ }
+    ensures { λ _. ⌜ now (mem .exit) ≡ take-trap (now (s .entry)) (now (mem .entry)) vec .m ⌝ }
+    ensures { λ e. ⌜ e .event ≡ take-trap (now (s .entry)) (now (mem .entry)) vec .event ⌝ }
     ensures { λ e. ⌜ Noted (now (mem .entry)) (now (log .entry)) n 6 (now (mem .exit)) (now (log .exit)) (e .n) ⌝ }
 {
     let some = 0 < vec;
@@ -115,8 +115,8 @@ fn both(s: &mut [u32; 20], mem: &mut [u8], log: &mut [u64], vec: u32, trace: boo
     ensures { λ e. ⌜ e .event ≡ both (now (s .entry)) (now (mem .entry)) vec trace .event ⌝ }
     ensures { λ e. ⌜ Noted (now (mem .entry)) (now (log .entry)) 0 12 (now (mem .exit)) (now (log .exit)) (e .n) ⌝ }
 {
-    let a = trap(s, mem, log, 0, vec);
-    let b = trap(s, mem, log, a.n, traced(vec, trace, a.event));
+    let a = take_trap(s, mem, log, 0, vec);
+    let b = take_trap(s, mem, log, a.n, traced(vec, trace, a.event));
     let first = a.event == 0;
     if first {
         return b;
@@ -129,7 +129,7 @@ fn both(s: &mut [u32; 20], mem: &mut [u8], log: &mut [u64], vec: u32, trace: boo
 
 // The end of an instruction that met no fault: its write and the trace; or, where it writes nothing, its trap and the trace. r has the
 // registers, and then the slots; s the slots before it. MOVEM's write reads the registers, so it comes before they are slots again.
-fn after(
+fn carry_out(
     r: &mut [u32; 20],
     s: &[u32; 20],
     mem: &mut [u8],
@@ -138,15 +138,15 @@ fn after(
     trace: bool,
 ) -> Ended
     requires { ⌜ LogOk (now mem) (now log) 0 × (70 ≤ length (now log)) ⌝ }
-    ensures { λ _. ⌜ now (r .exit) ≡ after (settle (now (s .entry)) (now (r .entry)) p) (now (mem .entry)) (now (r .entry)) p trace .s ⌝ }
-    ensures { λ _. ⌜ now (mem .exit) ≡ after (settle (now (s .entry)) (now (r .entry)) p) (now (mem .entry)) (now (r .entry)) p trace .m ⌝ }
-    ensures { λ e. ⌜ e .event ≡ after (settle (now (s .entry)) (now (r .entry)) p) (now (mem .entry)) (now (r .entry)) p trace .event ⌝ }
+    ensures { λ _. ⌜ now (r .exit) ≡ carry-out (settle (now (s .entry)) (now (r .entry)) p) (now (mem .entry)) (now (r .entry)) p trace .s ⌝ }
+    ensures { λ _. ⌜ now (mem .exit) ≡ carry-out (settle (now (s .entry)) (now (r .entry)) p) (now (mem .entry)) (now (r .entry)) p trace .m ⌝ }
+    ensures { λ e. ⌜ e .event ≡ carry-out (settle (now (s .entry)) (now (r .entry)) p) (now (mem .entry)) (now (r .entry)) p trace .event ⌝ }
     ensures { λ e. ⌜ Noted (now (mem .entry)) (now (log .entry)) 0 70 (now (mem .exit)) (now (log .exit)) (e .n) ⌝ }
 {
-    let none = p.z == 3;
+    let none = p.write == 3;
     if none {
         bank::settle(r, s, p);
-        let quiet = (p.event == 0) & !trace;
+        let quiet = (p.vector == 0) & !trace;
         if quiet {
             return Ended { n: 0, event: 0 };
         }
@@ -156,7 +156,7 @@ fn after(
     let n = commit(mem, log, r, p);
     bank::settle(r, s, p);
     if trace {
-        return trap(r, mem, log, n, 9);
+        return take_trap(r, mem, log, n, 9);
     }
     Ended { n, event: 0 }
 }
@@ -170,11 +170,11 @@ fn conclude(r: &mut [u32; 20], s: &[u32; 20], mem: &mut [u8], log: &mut [u64], t
     ensures { λ e. ⌜ Noted (now (mem .entry)) (now (log .entry)) 0 70 (now (mem .exit)) (now (log .exit)) (e .n) ⌝ }
 {
     let p = t.p;
-    let f = p.f;
+    let f = p.flow;
     let fine = f.bad == 0;
     if fine {
         let trace = bank::tracing(s[18]);
-        return after(r, s, mem, log, p, trace);
+        return carry_out(r, s, mem, log, p, trace);
     }
     let before = *s;
     *r = before;

@@ -27,8 +27,8 @@ pub fn immediate_to_ccr(which: u32, mem: &[u8], f: Flow) -> Plan
     ensures { λ p. ⌜ p ≡ immediate-to-ccr-plan which (view-of (now (mem .entry))) f ⌝ }
 {
     let w = bus::next_word(mem, f);
-    let g = w.f;
-    plan::nothing(plan::flagged(g, logic(which, f.sr, w.v)))
+    let g = w.flow;
+    plan::nothing(plan::flagged(g, logic(which, f.sr, w.value)))
 }
 
 // ANDI, ORI, EORI to SR.
@@ -36,8 +36,8 @@ pub fn immediate_to_sr(which: u32, mem: &[u8], f: Flow) -> Plan
     ensures { λ p. ⌜ p ≡ immediate-to-sr-plan which (view-of (now (mem .entry))) f ⌝ }
 {
     let w = bus::next_word(mem, f);
-    let g = w.f;
-    plan::nothing(bus::with_sr(g, logic(which, f.sr, w.v)))
+    let g = w.flow;
+    plan::nothing(bus::with_sr(g, logic(which, f.sr, w.value)))
 }
 
 // MOVE from SR. The flags stay as they are.
@@ -47,7 +47,7 @@ pub fn move_from_sr(r: &mut [u32; 20], mem: &[u8], op: u32, f: Flow) -> Plan
 {
     let b = operand::modify(r, mem, op / 8 % 8, op % 8, 1, f);
     let q = b.q;
-    let a = Flagged { v: f.sr, c: f.sr };
+    let a = Flagged { value: f.sr, ccr: f.sr };
     plan::finish(r, q, 1, a)
 }
 
@@ -57,8 +57,8 @@ pub fn move_to_ccr(r: &mut [u32; 20], mem: &[u8], op: u32, f: Flow) -> Plan
     ensures { λ p. ⌜ now (r .exit) ≡ move-to-ccr (now (r .entry)) (view-of (now (mem .entry))) op f .r ⌝ }
 {
     let w = operand::source(r, mem, op / 8 % 8, op % 8, 1, f);
-    let g = w.f;
-    plan::nothing(plan::flagged(g, w.v))
+    let g = w.flow;
+    plan::nothing(plan::flagged(g, w.value))
 }
 
 // MOVE to SR.
@@ -67,8 +67,8 @@ pub fn move_to_sr(r: &mut [u32; 20], mem: &[u8], op: u32, f: Flow) -> Plan
     ensures { λ p. ⌜ now (r .exit) ≡ move-to-sr (now (r .entry)) (view-of (now (mem .entry))) op f .r ⌝ }
 {
     let w = operand::source(r, mem, op / 8 % 8, op % 8, 1, f);
-    let g = w.f;
-    plan::nothing(bus::with_sr(g, w.v))
+    let g = w.flow;
+    plan::nothing(bus::with_sr(g, w.value))
 }
 
 // MOVE An,USP.
@@ -104,10 +104,10 @@ pub fn return_exception(r: &mut [u32; 20], mem: &[u8], op: u32, f: Flow) -> Plan
     ensures { λ p. ⌜ now (r .exit) ≡ return-exception (now (r .entry)) (view-of (now (mem .entry))) op f .r ⌝ }
 {
     let s = operand::source(r, mem, 3, 7, 1, f);
-    let g = s.f;
+    let g = s.flow;
     let t = operand::source(r, mem, 3, 7, 2, g);
-    let h = t.f;
-    plan::nothing(plan::jump(bus::with_sr(h, s.v), t.v))
+    let h = t.flow;
+    plan::nothing(plan::jump(bus::with_sr(h, s.value), t.value))
 }
 
 // STOP. A word with S clear is refused, once it is read.
@@ -115,10 +115,10 @@ pub fn stop(mem: &[u8], f: Flow) -> Plan
     ensures { λ p. ⌜ p ≡ stop-plan (view-of (now (mem .entry))) f ⌝ }
 {
     let w = bus::next_word(mem, f);
-    let g = w.f;
-    let supervisor = w.v / 8192 % 2 == 1;
+    let g = w.flow;
+    let supervisor = w.value / 8192 % 2 == 1;
     if supervisor {
-        return plan::stopping(bus::with_sr(g, w.v));
+        return plan::stopping(bus::with_sr(g, w.value));
     }
     plan::refusing(8, bits::minus(f.pc, 2), g)
 }
@@ -147,10 +147,10 @@ pub fn check_bounds(r: &mut [u32; 20], mem: &[u8], op: u32, f: Flow) -> Plan
     ensures { λ p. ⌜ now (r .exit) ≡ check-bounds (now (r .entry)) (view-of (now (mem .entry))) op f .r ⌝ }
 {
     let w = operand::source(r, mem, op / 8 % 8, op % 8, 1, f);
-    let g = w.f;
-    let a = alu::check(operand::get(r, op / 512 % 8), w.v, f.sr);
-    let h = plan::flagged(g, a.c);
-    let outside = a.v == 1;
+    let g = w.flow;
+    let a = alu::check(operand::get(r, op / 512 % 8), w.value, f.sr);
+    let h = plan::flagged(g, a.ccr);
+    let outside = a.value == 1;
     if outside {
         return plan::trapping(6, h);
     }

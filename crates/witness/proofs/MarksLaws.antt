@@ -37,6 +37,6 @@ module _ (x n z v c : Bool) where
   c-of-flags = test-of-bit (flags x n z v c % 2) c (omega (arith, bit-bound x, bit-bound n, bit-bound z, bit-bound v, bit-bound c))
 
   pub obeys-of-flags : (r : Row) (s old w : ℕ) → Follows (r .x) (x-of old) x c → Follows (r .n) (n-of old) n (leb (half s) w) → Follows (r .z) (z-of old) z (eqb w 0)
-      → Follows (r .v) (v-of old) v v → Follows (r .c) (c-of old) c c → Obeys r s old (record { v = w; c = flags x n z v c })
+      → Follows (r .v) (v-of old) v v → Follows (r .c) (c-of old) c c → Obeys r s old (record { value = w; ccr = flags x n z v c })
   obeys-of-flags r s old w fx fn fz fv fc =
       record { x = rw (x-of-flags, c-of-flags) fx; n = rw n-of-flags fn; z = rw z-of-flags fz; v = rw v-of-flags fv; c = rw c-of-flags fc }

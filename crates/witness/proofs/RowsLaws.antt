@@ -40,7 +40,7 @@ module _ (o : Outcome) (z old : ℕ) (e : o .n ≡ leb (half z) (o .r)) where
   unfolding continued
   continued-obeys = obeys-of-flags _ _ _ _ _ _ _ _ _ refl e refl tt tt
 
-compare-obeys : (a b old z : ℕ) → Obeys compare-row z old (record { v = concluded (difference a b false z) .v; c = compare a b old z .c })
+compare-obeys : (a b old z : ℕ) → Obeys compare-row z old (record { value = concluded (difference a b false z) .value; ccr = compare a b old z .ccr })
 unfolding compare concluded difference
 compare-obeys a b old z = obeys-of-flags _ _ _ _ _ _ _ _ _ refl refl refl tt tt
 
@@ -48,7 +48,7 @@ moved-obeys : (v old z : ℕ) → Obeys move-row z old (moved v old z)
 unfolding moved
 moved-obeys v old z = obeys-of-flags _ _ _ _ _ _ _ _ _ refl refl refl refl refl
 
-tas-obeys : (v old : ℕ) → Obeys move-row 0 old (record { v = low v 0; c = tas v old .c })
+tas-obeys : (v old : ℕ) → Obeys move-row 0 old (record { value = low v 0; ccr = tas v old .ccr })
 unfolding tas moved
 tas-obeys v old = moved-obeys v old 0
 
@@ -62,7 +62,7 @@ clear-obeys : (old z : ℕ) → Obeys (row kept cleared set-to-1 cleared cleared
 unfolding moved by-size
 clear-obeys old z = obeys-of-flags _ _ _ _ _ _ _ _ _ refl (clear-is-0 (eqb z 0) (eqb z 1) .1) (clear-is-0 (eqb z 0) (eqb z 1) .0) refl refl
 
-bit-obeys : (v n k old z : ℕ) → Obeys (row kept kept as-result kept kept) z old (record { v = bitAnd v (2 ^ bit-number n z); c = bit-operation v n k old z .c })
+bit-obeys : (v n k old z : ℕ) → Obeys (row kept kept as-result kept kept) z old (record { value = bitAnd v (2 ^ bit-number n z); ccr = bit-operation v n k old z .ccr })
 unfolding bit-operation
 bit-obeys v n k old z = obeys-of-flags _ _ _ _ _ _ _ _ _ refl refl refl refl refl
 
@@ -81,7 +81,7 @@ n-within false true n e = cc
 n-within false false n e = refl
 
 check-obeys : (m : Mark) (a b old : ℕ)
-    → Follows m (n-of old) (leb 32768 (a % 65536) || (not (ltb (biased b) (biased a)) && n-of old)) (leb (half 1) (check a b old .v)) → Obeys (row kept m undefined undefined undefined) 1 old (check a b old)
+    → Follows m (n-of old) (leb 32768 (a % 65536) || (not (ltb (biased b) (biased a)) && n-of old)) (leb (half 1) (check a b old .value)) → Obeys (row kept m undefined undefined undefined) 1 old (check a b old)
 unfolding check
 check-obeys m a b old f = obeys-of-flags _ _ _ _ _ _ _ _ _ refl f refl refl refl
 

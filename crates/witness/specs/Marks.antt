@@ -42,11 +42,11 @@ Follows undefined before after rule = after ≡ before
 
 -- a result of size s and its flags follow a row: the general rule is X as C, N as the top bit, Z as "is 0"  [003 A-1]
 pub record Obeys (r : Row) (s old : ℕ) (new : Flagged) : Type 0 where
-  pub x : Follows (r .x) (x-of old) (x-of (new .c)) (c-of (new .c))
-  pub n : Follows (r .n) (n-of old) (n-of (new .c)) (leb (half s) (new .v))
-  pub z : Follows (r .z) (z-of old) (z-of (new .c)) (eqb (new .v) 0)
-  pub v : Follows (r .v) (v-of old) (v-of (new .c)) (v-of (new .c))
-  pub c : Follows (r .c) (c-of old) (c-of (new .c)) (c-of (new .c))
+  pub x : Follows (r .x) (x-of old) (x-of (new .ccr)) (c-of (new .ccr))
+  pub n : Follows (r .n) (n-of old) (n-of (new .ccr)) (leb (half s) (new .value))
+  pub z : Follows (r .z) (z-of old) (z-of (new .ccr)) (eqb (new .value) 0)
+  pub v : Follows (r .v) (v-of old) (v-of (new .ccr)) (v-of (new .ccr))
+  pub c : Follows (r .c) (c-of old) (c-of (new .ccr)) (c-of (new .ccr))
 
 -- what an instruction works on: destination a, source b, count or bit number n, kind k, size z  [ours]
 pub record Operands : Type 0 where

@@ -65,7 +65,7 @@ outside-unsigned o = ltb 65535 (o .a / (o .b % 65536))
 
 -- a division judged by its quotient, the low word  [003 B DIVS, DIVU]
 abbrev pub by-quotient : Divided → Flagged
-by-quotient d = record { v = d .v % 65536; c = d .c }
+by-quotient d = record { value = d .value % 65536; ccr = d .ccr }
 
 -- a shift's side, and whether it moves nothing: the count is 0 modulo 64  [003 B ASL] [01 Arithmetic]
 abbrev pub to-left : Operands → Bool
@@ -85,7 +85,7 @@ rows =
     ∷ always extended-row (λ o. o .z) (λ o old. subtract-extended (o .a) (o .b) old (o .z))
     ∷ always extended-row (λ o. o .z) (λ o old. negate-extended (o .a) old (o .z))
     -- CMP, CMPA, CMPI, CMPM: judged by the difference  [003 B CMP]
-    ∷ always compare-row (λ o. o .z) (λ o old. record { v = subtract (o .a) (o .b) (o .z) .v; c = compare (o .a) (o .b) old (o .z) .c })
+    ∷ always compare-row (λ o. o .z) (λ o old. record { value = subtract (o .a) (o .b) (o .z) .value; ccr = compare (o .a) (o .b) old (o .z) .ccr })
     -- MOVE, TST; MOVEQ  [003 B MOVE, TST, MOVEQ]
     ∷ always move-row (λ o. o .z) (λ o old. moved (o .b) old (o .z))
     ∷ always move-row (λ o. 2) (λ o old. moved (o .b) old 2)
@@ -99,10 +99,10 @@ rows =
     -- EXT; SWAP; TAS, judged by the byte before  [003 B EXT, SWAP, TAS]
     ∷ always move-row (λ o. o .z) (λ o old. extended (o .a) old (o .z))
     ∷ always move-row (λ o. 2) (λ o old. swapped (o .a) old)
-    ∷ always move-row (λ o. 0) (λ o old. record { v = low (o .a) 0; c = tas (o .a) old .c })
+    ∷ always move-row (λ o. 0) (λ o old. record { value = low (o .a) 0; ccr = tas (o .a) old .ccr })
     -- BTST, BCHG, BCLR, BSET: judged by the bit before  [003 B BTST, BCHG, BCLR, BSET]
     ∷ always (row kept kept as-result kept kept) (λ o. o .z)
-    (λ o old. record { v = bitAnd (o .a) (2 ^ bit-number (o .n) (o .z)); c = bit-operation (o .a) (o .n) (o .k) old (o .z) .c })
+    (λ o old. record { value = bitAnd (o .a) (2 ^ bit-number (o .n) (o .z)); ccr = bit-operation (o .a) (o .n) (o .k) old (o .z) .ccr })
     -- CHK below 0, above the bound, within  [003 B CHK] [01 step 5]
     ∷ in-case (row kept set-to-1 undefined undefined undefined) below (λ o. 1) (λ o old. check (o .a) (o .b) old)
     ∷ in-case (row kept cleared undefined undefined undefined) (λ o. not (below o) && above o) (λ o. 1) (λ o old. check (o .a) (o .b) old)
