@@ -4,14 +4,14 @@
 -- Uses: bits, bus, operand, plan, store, touch.
 use Prim.Native.Nat.{ℕ, _+_, _*_, _%_, _/_, _-_, _<_, _≤_}
 use native.Mathlib.Omega.{arith}
-use mathlib.Core.Path.{_≡_}
+use mathlib.Core.Path.{_≡_, ap}
 use mathlib.Core.Bool.{Bool, true, false}
 use mathlib.Core.List.{List}
 use lib.ListN.{length}
 use lib.Dec.{leb, eqb}
 use lib.Count.{onesIn}
 use Rattle.bits.specs.Bits.{pick, by-size, minus}
-use Rattle.bits.proofs.BitsLaws.{Turns}
+use Rattle.bits.proofs.BitsLaws.{Turns, turns-start, turns-again}
 use Rattle.bus.specs.Bus.{put-sized}
 use Rattle.operand.specs.Operands.{get}
 use Rattle.plan.specs.declared.Plan.{Plan}
@@ -19,8 +19,8 @@ use Rattle.touch.specs.Touch.{LogOk, Noted}
 use Rattle.touch.proofs.TouchLaws.{noted-none, noted-then}
 use Rattle.movem.specs.declared.Way.{Way}
 use Rattle.movem.specs.declared.Spot.{Spot}
-use Rattle.movem.specs.Movem.{listed, first-spot, next-spot, room-way, mirrored-byte, mirrored, put-way, stored, byte-of, part-of, put-part, put-one, block-put}
-use Rattle.movem.proofs.MovemLaws.{walk, walk-start, walk-again, walk-end-list}
+use Rattle.movem.specs.Movem.{listed, first-spot, next-spot, Walk, room-way, mirrored-byte, mirrored, put-way, stored, byte-of, part-of, put-part, put-one, block-put}
+use Rattle.movem.proofs.MovemLaws.{walk, walk-end}
 
 pub mirrored-is : (x a b : ℕ) → a ≡ mirrored-byte x → b ≡ mirrored-byte (x / 256) → a * 256 + b ≡ mirrored x
 unfolding mirrored
@@ -97,7 +97,7 @@ pub record Storing (r : List ℕ) (p : Plan) (w : Way) (m₀ l₀ : List ℕ) (n
 
 module _ (r : List ℕ) (p : Plan) (w : Way) (m₀ l₀ : List ℕ) (n₀ : ℕ) (d₀ : Spot) where
   pub storing-start : LogOk m₀ l₀ n₀ → Storing r p w m₀ l₀ n₀ d₀ 0 m₀ l₀ n₀ d₀
-  storing-start ok = record { turns = walk-start (put-one r p w) 16 m₀ d₀; noted = noted-none m₀ l₀ n₀ ok }
+  storing-start ok = record { turns = turns-start (put-one r p w) 16 (walk m₀ d₀); noted = noted-none m₀ l₀ n₀ ok }
 
   module _ (j : ℕ) (m l : List ℕ) (n : ℕ) (d : Spot) (s : Storing r p w m₀ l₀ n₀ d₀ j m l n d) where
     pub storing-room : j < 16 → n₀ + 64 ≤ length l₀ → n + 4 ≤ length l
@@ -107,13 +107,13 @@ module _ (r : List ℕ) (p : Plan) (w : Way) (m₀ l₀ : List ℕ) (n₀ : ℕ)
         → Storing r p w m₀ l₀ n₀ d₀ (j + 1) m₁ l₁ n₁ e
     unfolding put-one
     storing-again m₁ l₁ n₁ e h k a q = record {
-      turns = walk-again (put-one r p w) 16 j m₀ d₀ m d (s .turns) m₁ e h k q;
+      turns = turns-again (put-one r p w) 16 j (walk m₀ d₀) (walk m d) (s .turns) (walk m₁ e) h (rw (k, q));
       noted = noted-then m₀ l₀ n₀ (j * 4) m l n 4 m₁ l₁ n₁ ((j + 1) * 4) (omega arith) (s .noted) a;
     }
 
     pub storing-memory : 16 ≤ j → w ≡ put-way p → d₀ ≡ first-spot w (p .flow) → m ≡ block-put m₀ r p
     unfolding block-put
-    storing-memory h e q = let t = walk-end-list (put-one r p w) 16 j m₀ d₀ m d (s .turns) (first-spot w (p .flow)) q h in cc
+    storing-memory h e q = let t = ap (λ (y : Walk). y .held) (walk-end (put-one r p w) 16 j m₀ d₀ m d (first-spot w (p .flow)) (s .turns) q h) in cc
 
     pub storing-noted : Noted m₀ l₀ n₀ 64 m l n
     storing-noted = noted-within m₀ l₀ n₀ m l n (j * 4) 64 (omega (arith, s .turns .le)) (s .noted)

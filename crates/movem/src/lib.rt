@@ -63,8 +63,7 @@ fn next_spot(w: Way, d: Spot, f: Flow) -> Spot
 
 // Register k is loaded if the list has it; a word is carried on to 32 bits.
 fn load_one(r: &mut [u32; 20], mem: &[u8], k: u32, w: Way, d: Spot) -> Spot
-    ensures { λ e. ⌜ e ≡ load-one (view-of (now (mem .entry))) k w (record { held = now (r .entry); spot = d }) .spot ⌝ }
-    ensures { λ e. ⌜ now (r .exit) ≡ load-one (view-of (now (mem .entry))) k w (record { held = now (r .entry); spot = d }) .held ⌝ }
+    ensures { λ e. ⌜ record { held = now (r .exit); spot = e } ≡ load-one (view-of (now (mem .entry))) k w (record { held = now (r .entry); spot = d }) ⌝ }
 {
     let f = d.flow;
     let on = d.list % 2 == 1;
@@ -78,8 +77,7 @@ fn load_one(r: &mut [u32; 20], mem: &[u8], k: u32, w: Way, d: Spot) -> Spot
 }
 
 fn load_list(r: &mut [u32; 20], mem: &[u8], k: u32, w: Way, f: Flow) -> Spot
-    ensures { λ e. ⌜ e ≡ load-list (now (r .entry)) (view-of (now (mem .entry))) k w f .spot ⌝ }
-    ensures { λ e. ⌜ now (r .exit) ≡ load-list (now (r .entry)) (view-of (now (mem .entry))) k w f .held ⌝ }
+    ensures { λ e. ⌜ record { held = now (r .exit); spot = e } ≡ load-list (now (r .entry)) (view-of (now (mem .entry))) k w f ⌝ }
 {
     let mut d = first_spot(w, f);
     let mut j: u32 = 0;
@@ -92,8 +90,7 @@ fn load_list(r: &mut [u32; 20], mem: &[u8], k: u32, w: Way, f: Flow) -> Spot
 
 // The address is formed once, before any load. (An)+, the only mode here that steps, leaves An at the final address.
 pub fn movem_to_registers(r: &mut [u32; 20], mem: &[u8], op: u32, f: Flow) -> Plan
-    ensures { λ p. ⌜ p ≡ movem-to-registers (now (r .entry)) (view-of (now (mem .entry))) op f .p ⌝ }
-    ensures { λ p. ⌜ now (r .exit) ≡ movem-to-registers (now (r .entry)) (view-of (now (mem .entry))) op f .r ⌝ }
+    ensures { λ p. ⌜ record { r = now (r .exit); p = p } ≡ movem-to-registers (now (r .entry)) (view-of (now (mem .entry))) op f ⌝ }
 {
     let z = 1 + op / 64 % 2;
     let l = bus::next_word(mem, f);
@@ -129,8 +126,7 @@ fn ones_of(list: u32) -> u32
 
 // MOVEM to -(An): the plan has An's first value, the bank its last.
 fn movem_down(r: &mut [u32; 20], list: u32, op: u32, f: Flow) -> Plan
-    ensures { λ p. ⌜ p ≡ movem-down (now (r .entry)) list op f .p ⌝ }
-    ensures { λ p. ⌜ now (r .exit) ≡ movem-down (now (r .entry)) list op f .r ⌝ }
+    ensures { λ p. ⌜ record { r = now (r .exit); p = p } ≡ movem-down (now (r .entry)) list op f ⌝ }
 {
     let i = 8 + op % 8;
     let a = operand::get(r, i);
@@ -140,8 +136,7 @@ fn movem_down(r: &mut [u32; 20], list: u32, op: u32, f: Flow) -> Plan
 }
 
 pub fn movem_to_memory(r: &mut [u32; 20], mem: &[u8], op: u32, f: Flow) -> Plan
-    ensures { λ p. ⌜ p ≡ movem-to-memory (now (r .entry)) (view-of (now (mem .entry))) op f .p ⌝ }
-    ensures { λ p. ⌜ now (r .exit) ≡ movem-to-memory (now (r .entry)) (view-of (now (mem .entry))) op f .r ⌝ }
+    ensures { λ p. ⌜ record { r = now (r .exit); p = p } ≡ movem-to-memory (now (r .entry)) (view-of (now (mem .entry))) op f ⌝ }
 {
     let l = bus::next_word(mem, f);
     let g = l.flow;

@@ -1,9 +1,9 @@
 use Prim.Native.Nat.{_-_}
 use borrow.Author.Needs.{needs}
-use Rattle.bits.proofs.BitsLaws.{Turns}
+use Rattle.bits.proofs.BitsLaws.{Turns, turns-start, turns-again}
 use Rattle.bus.specs.Bus.{view-of}
 use Rattle.movem.specs.Movem.{load-one}
-use Rattle.movem.proofs.MovemLaws.{walk, walk-start, walk-again, walk-end-list, walk-end-spot}
+use Rattle.movem.proofs.MovemLaws.{walk, walk-end}
 use Rattle.movem.proofs.load_list.Statement.{statement}
 use Rattle.movem.proofs.load_list.Tie as tie
 
@@ -16,5 +16,5 @@ abbrev μ-loop : tie.MeasureT-loop
 pub load-list-spec : {M : Type 1} → statement M
 load-list-spec =
     tie.close (tie.spec
-    Inv-loop μ-loop (λ c κs. search needs) (λ c. search walk-start) (λ c κs. search needs) (λ c. search needs) (λ c. search needs)
-    (λ c. search walk-again) (λ c. (search walk-end-spot, search walk-end-list)))
+    Inv-loop μ-loop (λ c κs. search needs) (λ c. search turns-start) (λ c κs. search needs) (λ c. search needs) (λ c. search needs)
+    (λ c. search turns-again) (λ c. search walk-end))

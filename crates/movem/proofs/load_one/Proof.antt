@@ -1,4 +1,4 @@
-use Rattle.movem.proofs.MovemLaws.{load-listed-registers, load-listed-spot, load-unlisted-registers, load-unlisted-spot}
+use Rattle.movem.proofs.MovemLaws.{load-listed, load-unlisted}
 use borrow.Author.Needs.{needs}
 use Rattle.movem.proofs.load_one.Statement.{statement}
 use Rattle.movem.proofs.load_one.Tie as tie
@@ -7,5 +7,4 @@ pub load-one-spec : {M : Type 1} → statement M
 load-one-spec =
     tie.close (tie.spec
     (λ c κs. search needs) (λ c κs. search needs) (λ c κs. search needs) (λ c κs. search needs)
-    (λ c. (search load-listed-spot, search load-listed-registers)) (λ c κs. search needs)
-    (λ c. (search load-unlisted-spot, search load-unlisted-registers)))
+    (λ c. search load-listed) (λ c κs. search needs) (λ c. search load-unlisted))

@@ -1,4 +1,4 @@
-use Rattle.movem.proofs.MovemLaws.{downward-plan, downward-registers, upward-plan, upward-registers}
+use Rattle.movem.proofs.MovemLaws.{downward, upward}
 use borrow.Author.Needs.{needs}
 use Rattle.movem.proofs.movem_to_memory.Statement.{statement}
 use Rattle.movem.proofs.movem_to_memory.Tie as tie
@@ -6,5 +6,5 @@ use Rattle.movem.proofs.movem_to_memory.Tie as tie
 pub movem-to-memory-spec : {M : Type 1} → statement M
 movem-to-memory-spec =
     tie.close (tie.spec
-    (λ c κs. search needs) (λ c κs. search needs) (λ c. (search downward-plan, search downward-registers)) (λ c. search needs) (λ c κs. search needs)
-    (λ c. search needs) (λ c. search needs) (λ c. search needs) (λ c κs. search needs) (λ c. (search upward-plan, search upward-registers)))
+    (λ c κs. search needs) (λ c κs. search needs) (λ c. search downward) (λ c. search needs) (λ c κs. search needs)
+    (λ c. search needs) (λ c. search needs) (λ c. search needs) (λ c κs. search needs) (λ c. search upward))
