@@ -1,6 +1,6 @@
 use borrow.Author.Needs.{needs}
 use Rattle.execute.specs.Dispatch.{movement-kind}
-use Rattle.execute.proofs.DispatchLaws.{arm-is, arm-parts, last-is}
+use Rattle.execute.proofs.DispatchLaws.{arm-is, last-is}
 use Rattle.execute.proofs.movement_kind.Statement.{statement}
 use Rattle.execute.proofs.movement_kind.Tie as tie
 
@@ -11,6 +11,6 @@ movement-kind-spec =
     (λ c κs. search needs) (λ c κs. search needs) (λ c κs. search needs) (λ c κs. search needs) (λ c κs. search needs) (λ c κs. search needs)
     (λ c κs. search needs) (λ c κs. search needs) (λ c κs. search needs) (λ c κs. search needs) (λ c κs. search needs) (λ c κs. search needs)
     (λ c κs. search needs) (λ c κs. search needs) (λ c κs. search needs)
-    (λ c. search arm-is) (λ c. search arm-is) (λ c. search arm-is) (λ c. search arm-parts) (λ c. search arm-parts) (λ c. search arm-is)
+    (λ c. search arm-is) (λ c. search arm-is) (λ c. search arm-is) (λ c. search arm-is) (λ c. search arm-is) (λ c. search arm-is)
     (λ c. search arm-is) (λ c. search arm-is) (λ c. search arm-is) (λ c. search arm-is) (λ c. search arm-is) (λ c. search arm-is)
     (λ c. search arm-is) (λ c. search arm-is) (λ c. search (last-is, c .before .before .match .rest)))
