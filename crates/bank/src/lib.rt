@@ -1,32 +1,33 @@
 // lib.rt - the bank of registers that an instruction sees, out of the twenty slots, and the slots after the instruction.
 // Means: specs/Bank.antt.  Laws: proofs/BankLaws.antt.
-// Uses: bits, flags, bus, plan.  Source: [01 What the box emulates, State], [01 step 4], [01 step 5].
+// Uses: codes, bits, flags, bus, plan.  Source: [01 What the box emulates, State], [01 step 4], [01 step 5].
 ghost use mathlib.Core.Path.{_≡_};
 ghost use Prim.Native.Nat.{ℕ, _+_, _*_, _%_, _/_, _<_, _≤_};
 ghost use lib.ListN.{getD, set};
 ghost use Rattle.bank.specs.Bank.{supervisor, tracing, bank, mode-after, slots-of, settle};
+use codes::SLOTS;
 use plan::Plan;
 
 pub fn supervisor(sr: u32) -> bool
     ensures { λ r. ⌜ r ≡ supervisor sr ⌝ }
 {
-    sr / 8192 % 2 == 1
+    sr / codes::SUPERVISOR % 2 == 1
 }
 
 pub fn tracing(sr: u32) -> bool
     ensures { λ r. ⌜ r ≡ tracing sr ⌝ }
 {
-    sr / 32768 % 2 == 1
+    sr / codes::TRACE % 2 == 1
 }
 
 // D0 to D7, A0 to A6, the active stack pointer as A7, and USP beside it in supervisor state: put in their order where the slots stand, so
 // that no step copies them; what stays where it is costs nothing once compiled. No instruction reaches the three slots behind them.
-pub fn bank(s: &mut [u32; 20])
+pub fn bank(s: &mut [u32; SLOTS])
     ensures { λ _. ⌜ now (s .exit) ≡ bank (now (s .entry)) ⌝ }
 {
-    let sup = supervisor(s[18]);
-    let usp = s[15];
-    let ssp = s[16];
+    let sup = supervisor(s[codes::SR]);
+    let usp = s[codes::USP];
+    let ssp = s[codes::SSP];
     if sup {
         let r = [
             s[0],
@@ -46,9 +47,9 @@ pub fn bank(s: &mut [u32; 20])
             s[14],
             ssp,
             usp,
-            s[17],
-            s[18],
-            s[19],
+            s[codes::PC],
+            s[codes::SR],
+            s[codes::MODE],
         ];
         *s = r;
         return;
@@ -71,18 +72,18 @@ pub fn bank(s: &mut [u32; 20])
         s[14],
         usp,
         0,
-        s[17],
-        s[18],
-        s[19],
+        s[codes::PC],
+        s[codes::SR],
+        s[codes::MODE],
     ];
     *s = r;
 }
 
 // The mode after an instruction: 1 after a STOP in supervisor state that is not traced, else 0.
-fn mode_after(sr: u32, event: u32) -> u32
-    ensures { λ q. ⌜ q ≡ mode-after sr event ⌝ }
+fn mode_after(sr: u32, vec: u32) -> u32
+    ensures { λ q. ⌜ q ≡ mode-after sr vec ⌝ }
 {
-    let stop = event == 256;
+    let stop = vec == codes::STOP;
     let sup = supervisor(sr);
     let trace = tracing(sr);
     bits::bit(stop & sup & !trace)
@@ -110,7 +111,7 @@ fn slots_of(
     pc: u32,
     sr: u32,
     mode: u32,
-) -> [u32; 20]
+) -> [u32; SLOTS]
     ensures { λ r. ⌜ r ≡ slots-of d0 d1 d2 d3 d4 d5 d6 d7 a0 a1 a2 a3 a4 a5 a6 usp ssp pc sr mode ⌝ }
 {
     [
@@ -139,11 +140,11 @@ fn slots_of(
 
 // The slots after an instruction that met no fault: r has the registers, and then the slots; s the slots before it. A7 goes back to the
 // pointer that was active at the start; in user state SSP stays, and of SR only the flags change.
-pub fn settle(r: &mut [u32; 20], s: &[u32; 20], p: Plan)
+pub fn settle(r: &mut [u32; SLOTS], s: &[u32; SLOTS], p: Plan)
     ensures { λ _. ⌜ now (r .exit) ≡ settle (now (s .entry)) (now (r .entry)) p ⌝ }
 {
     let f = p.flow;
-    let old = s[18];
+    let old = s[codes::SR];
     let mode = mode_after(old, p.vector);
     let sup = supervisor(old);
     if sup {
@@ -189,7 +190,7 @@ pub fn settle(r: &mut [u32; 20], s: &[u32; 20], p: Plan)
         r[13],
         r[14],
         r[15],
-        s[16],
+        s[codes::SSP],
         f.pc,
         flags::with_ccr(old, f.sr),
         mode,

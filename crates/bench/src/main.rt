@@ -1,12 +1,13 @@
 // main.rt - what so many steps of an image give; or, to measure with, the steps alone.
 // Means: nothing; proved safe.
-// Uses: machine, io, libc, os.  Source: [ours].
+// Uses: codes, machine, io, libc, os.  Source: [ours].
 //
 // Arguments, in any number: a count of steps tells what that many steps from a reset give; `speed COUNT` only runs
 // them, and `undo COUNT` runs each, undoes it and runs it again: both tell the slots alone. The image is standard
 // input, or the file of an `image FILE` before the counts; `memory BYTES` and `journal BYTES` before them say how much
 // is lent: else 65,536 bytes, and 1,048,576. A memory above 65,536 bytes needs a stack of 64 MiB, as `./run` gives it.
 // An argument that is none of these, or a length that cannot be lent, is told on standard error and passed over.
+use codes::SLOTS;
 mod asking;
 mod running;
 
@@ -40,9 +41,9 @@ fn write_slot(value: u32) {
 }
 
 // The slots in base 16, with commas between.
-fn write_slots(slots: &[u32; 20]) {
+fn write_slots(slots: &[u32; SLOTS]) {
     write_slot(slots[0]);
-    for i in 1..20usize {
+    for i in 1..SLOTS {
         io::write_all(STDOUT_FILENO, b",");
         write_slot(slots[i]);
     }
@@ -69,7 +70,7 @@ fn write_progress(p: Progress, memory: &[u8]) {
 
 // Runs what is asked, on the memory and the journal that are lent.
 fn run_asked(a: Asked, memory: &mut [u8], journal: &mut [u8]) {
-    let mut slots = [0u32; 20];
+    let mut slots = [0u32; SLOTS];
     machine::reset(&mut slots, memory);
     let p = running::start(a.count);
     let q = running::run_all(p, &mut slots, memory, journal, a.way);

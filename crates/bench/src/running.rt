@@ -1,12 +1,13 @@
 // running.rt - runs of many steps from a reset, with a journal that starts again when it is full.
 // Means: nothing; proved safe.
-// Uses: machine.  Source: [01 Calls and what they give back]; the hash is FNV-1a of 32 bits.
+// Uses: codes, machine.  Source: [01 Calls and what they give back]; the hash is FNV-1a of 32 bits.
 // no program reaches this address
 const STOP: u32 = 4294967295;
 
 const HASH_START: u32 = 2166136261;
 
 // how steps are run: with the journal's hash; alone; or each undone once and done again
+use codes::SLOTS;
 pub const HASHED: u32 = 0;
 
 pub const ALONE: u32 = 1;
@@ -73,7 +74,7 @@ struct Part {
 }
 
 // A run until the steps are done or the journal is full.
-fn run_part(left: u64, slots: &mut [u32; 20], memory: &mut [u8], journal: &mut [u8]) -> Part {
+fn run_part(left: u64, slots: &mut [u32; SLOTS], memory: &mut [u8], journal: &mut [u8]) -> Part {
     let answer = machine::run(slots, memory, budget(left), STOP, journal, 0);
     Part {
         steps: answer.steps as u64,
@@ -97,7 +98,7 @@ fn after(p: Progress, part: Part) -> Progress {
 }
 
 // The mark after an undo; 0 if it is refused.
-fn undo_once(slots: &mut [u32; 20], memory: &mut [u8], journal: &[u8], mark: usize) -> usize {
+fn undo_once(slots: &mut [u32; SLOTS], memory: &mut [u8], journal: &[u8], mark: usize) -> usize {
     let answer = machine::undo(slots, memory, journal, mark);
     if answer.number != 0 {
         return 0;
@@ -106,7 +107,7 @@ fn undo_once(slots: &mut [u32; 20], memory: &mut [u8], journal: &[u8], mark: usi
 }
 
 // Undoes all that the journal holds.
-fn undo_all(slots: &mut [u32; 20], memory: &mut [u8], journal: &[u8], mark: usize) {
+fn undo_all(slots: &mut [u32; SLOTS], memory: &mut [u8], journal: &[u8], mark: usize) {
     let mut at = mark;
     let mut turns = u64::MAX;
     while turns > 0 && at > 0 {
@@ -116,7 +117,7 @@ fn undo_all(slots: &mut [u32; 20], memory: &mut [u8], journal: &[u8], mark: usiz
 }
 
 // Where steps are to be undone: a run, and the undo of it.
-fn run_undone(p: Progress, slots: &mut [u32; 20], memory: &mut [u8], journal: &mut [u8], way: u32) {
+fn run_undone(p: Progress, slots: &mut [u32; SLOTS], memory: &mut [u8], journal: &mut [u8], way: u32) {
     if way != UNDONE {
         return;
     }
@@ -126,7 +127,7 @@ fn run_undone(p: Progress, slots: &mut [u32; 20], memory: &mut [u8], journal: &m
 
 fn run_once(
     p: Progress,
-    slots: &mut [u32; 20],
+    slots: &mut [u32; SLOTS],
     memory: &mut [u8],
     journal: &mut [u8],
     way: u32,
@@ -143,7 +144,7 @@ fn run_once(
 // Runs until the steps are done.
 pub fn run_all(
     p: Progress,
-    slots: &mut [u32; 20],
+    slots: &mut [u32; SLOTS],
     memory: &mut [u8],
     journal: &mut [u8],
     way: u32,

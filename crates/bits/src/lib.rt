@@ -25,12 +25,12 @@ pub fn modulus_of(z: u32) -> u64
     let byte = z == 0;
     let word = z == 1;
     if byte {
-        return 256;
+        return 0x100;
     }
     if word {
-        return 65536;
+        return 0x1_0000;
     }
-    4294967296
+    0x1_0000_0000
 }
 
 pub fn half_of(z: u32) -> u32
@@ -39,12 +39,12 @@ pub fn half_of(z: u32) -> u32
     let byte = z == 0;
     let word = z == 1;
     if byte {
-        return 128;
+        return 0x80;
     }
     if word {
-        return 32768;
+        return 0x8000;
     }
-    2147483648
+    0x8000_0000
 }
 
 // The low byte, word or long.
@@ -54,44 +54,44 @@ pub fn cut(x: u64, z: u32) -> u32
     let byte = z == 0;
     let word = z == 1;
     if byte {
-        return (x % 256) as u32;
+        return (x % 0x100) as u32;
     }
     if word {
-        return (x % 65536) as u32;
+        return (x % 0x1_0000) as u32;
     }
-    (x % 4294967296) as u32
+    (x % 0x1_0000_0000) as u32
 }
 
 // A difference of 32 bits.
 pub fn minus(a: u32, b: u32) -> u32
     ensures { λ r. ⌜ r ≡ minus a b ⌝ }
 {
-    ((a as u64 + 4294967296 - b as u64) % 4294967296) as u32
+    ((a as u64 + 0x1_0000_0000 - b as u64) % 0x1_0000_0000) as u32
 }
 
 // The low part a of a number x replaced by b.
 pub fn joined(x: u32, a: u32, b: u32) -> u32
     ensures { λ r. ⌜ r ≡ joined x a b ⌝ }
 {
-    ((x as u64 + 4294967296 - a as u64 + b as u64) % 4294967296) as u32
+    ((x as u64 + 0x1_0000_0000 - a as u64 + b as u64) % 0x1_0000_0000) as u32
 }
 
 // The low byte, its sign carried on to 32 bits.
 pub fn sign_byte(x: u32) -> u32
     ensures { λ r. ⌜ r ≡ sign-byte x ⌝ }
 {
-    let b = x % 256;
-    let neg = 128 <= b;
-    b + bit(neg) * 4294967040
+    let b = x % 0x100;
+    let neg = 0x80 <= b;
+    b + bit(neg) * 0xFFFF_FF00
 }
 
 // The low word, its sign carried on to 32 bits.
 pub fn sign_word(x: u32) -> u32
     ensures { λ r. ⌜ r ≡ sign-word x ⌝ }
 {
-    let w = x % 65536;
-    let neg = 32768 <= w;
-    w + bit(neg) * 4294901760
+    let w = x % 0x1_0000;
+    let neg = 0x8000 <= w;
+    w + bit(neg) * 0xFFFF_0000
 }
 
 // A byte or word carried on to 32 bits; a long as it is.

@@ -1,15 +1,16 @@
 // lib.rt - shift and rotate instructions, and those on single bits: operands read, the result put or planned, the flags set.
 // Means: specs/Bitwise.antt.  Laws: proofs/BitwiseLaws.antt.
-// Uses: bits, flags, alu, shift, bus, operand, plan.  Source: [003 3.5], [003 3.6], [003 B], [01 Arithmetic].
+// Uses: codes, bits, flags, alu, shift, bus, operand, plan.  Source: [003 3.5], [003 3.6], [003 B], [01 Arithmetic].
 ghost use mathlib.Core.Path.{_≡_};
 ghost use Rattle.bus.specs.Bus.{view-of};
 ghost use Rattle.plan.specs.Plans.{Done};
 ghost use Rattle.bitwise.specs.Bitwise.{shift-count, shift-place, shift-register, shift-memory, bit-size, bit-place, bit-dynamic, bit-static};
+use codes::SLOTS;
 use bus::Flow;
 use plan::Plan;
 
 // How many places: three bits of the operation word, or the data register that they name.
-fn shift_count(r: &[u32; 20], op: u32) -> u32
+fn shift_count(r: &[u32; SLOTS], op: u32) -> u32
     ensures { λ n. ⌜ n ≡ shift-count (now (r .entry)) op ⌝ }
 {
     let held = op / 32 % 2 == 1;
@@ -25,7 +26,7 @@ fn shift_place(
     n: u32,
     mode: u32,
     z: u32,
-    r: &mut [u32; 20],
+    r: &mut [u32; SLOTS],
     mem: &[u8],
     op: u32,
     f: Flow,
@@ -40,7 +41,7 @@ fn shift_place(
 }
 
 // A data register, at any size.
-pub fn shift_register(r: &mut [u32; 20], mem: &[u8], op: u32, f: Flow) -> Plan
+pub fn shift_register(r: &mut [u32; SLOTS], mem: &[u8], op: u32, f: Flow) -> Plan
     ensures { λ p. ⌜ record { r = now (r .exit); p = p } ≡ shift-register (now (r .entry)) (view-of (now (mem .entry))) op f ⌝ }
 {
     let n = shift_count(r, op);
@@ -48,7 +49,7 @@ pub fn shift_register(r: &mut [u32; 20], mem: &[u8], op: u32, f: Flow) -> Plan
 }
 
 // A word in memory, one place.
-pub fn shift_memory(r: &mut [u32; 20], mem: &[u8], op: u32, f: Flow) -> Plan
+pub fn shift_memory(r: &mut [u32; SLOTS], mem: &[u8], op: u32, f: Flow) -> Plan
     ensures { λ p. ⌜ record { r = now (r .exit); p = p } ≡ shift-memory (now (r .entry)) (view-of (now (mem .entry))) op f ⌝ }
 {
     shift_place(op / 512 % 4, 1, op / 8 % 8, 1, r, mem, op, f)
@@ -63,7 +64,7 @@ fn bit_size(op: u32) -> u32
 }
 
 // BTST, BCHG, BCLR, BSET of bit n; BTST writes nothing.
-fn bit_place(n: u32, r: &mut [u32; 20], mem: &[u8], op: u32, f: Flow) -> Plan
+fn bit_place(n: u32, r: &mut [u32; SLOTS], mem: &[u8], op: u32, f: Flow) -> Plan
     ensures { λ p. ⌜ record { r = now (r .exit); p = p } ≡ bit-place n (now (r .entry)) (view-of (now (mem .entry))) op f ⌝ }
 {
     let z = bit_size(op);
@@ -80,7 +81,7 @@ fn bit_place(n: u32, r: &mut [u32; 20], mem: &[u8], op: u32, f: Flow) -> Plan
 }
 
 // The bit's number is in a data register.
-pub fn bit_dynamic(r: &mut [u32; 20], mem: &[u8], op: u32, f: Flow) -> Plan
+pub fn bit_dynamic(r: &mut [u32; SLOTS], mem: &[u8], op: u32, f: Flow) -> Plan
     ensures { λ p. ⌜ record { r = now (r .exit); p = p } ≡ bit-dynamic (now (r .entry)) (view-of (now (mem .entry))) op f ⌝ }
 {
     let n = operand::get(r, op / 512 % 8);
@@ -88,7 +89,7 @@ pub fn bit_dynamic(r: &mut [u32; 20], mem: &[u8], op: u32, f: Flow) -> Plan
 }
 
 // The bit's number is in the word after the operation word.
-pub fn bit_static(r: &mut [u32; 20], mem: &[u8], op: u32, f: Flow) -> Plan
+pub fn bit_static(r: &mut [u32; SLOTS], mem: &[u8], op: u32, f: Flow) -> Plan
     ensures { λ p. ⌜ record { r = now (r .exit); p = p } ≡ bit-static (now (r .entry)) (view-of (now (mem .entry))) op f ⌝ }
 {
     let w = bus::next_word(mem, f);

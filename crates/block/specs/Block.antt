@@ -4,11 +4,12 @@
 use Prim.Native.Nat.{ℕ, zero, suc, _+_, _*_, _/_, _%_}
 use mathlib.Core.List.{List, [], _∷_, _++_}
 use lib.ListN.{getD, drop}
+use Rattle.codes.specs.Codes.{Slots}
 use Rattle.record.specs.Limits.{slot-limit}
 
 -- the bytes of a block  [K1]
 abbrev pub block-length : ℕ
-block-length = 80
+block-length = 4 * Slots
 
 -- the slot of four bytes, high byte first  [K1]
 abbrev pub slot-of : ℕ → ℕ → ℕ → ℕ → ℕ

@@ -1,13 +1,14 @@
 // lib.rt - the state as a block of bytes: twenty slots in order, four bytes each, high byte first; read and written.
 // Means: specs/Block.antt.  Laws: proofs/BlockLaws.antt.
-// Uses: record.  Source: [K1].
+// Uses: codes, record.  Source: [K1].
 ghost use mathlib.Core.Path.{_≡_};
 ghost use Prim.Native.Nat.{_+_, _*_, _<_};
 ghost use lib.ListN.{length};
 ghost use lib.Seq.{sets};
 ghost use Rattle.block.specs.Block.{block-length, slot-of, slot-at, slot-bytes, slots-in, block-of};
+use codes::SLOTS;
 
-pub const BLOCK_LENGTH: usize = 80;
+pub const BLOCK_LENGTH: usize = 4 * codes::SLOTS;
 
 fn slot_of(a: u8, b: u8, c: u8, d: u8) -> u32
     ensures { λ r. ⌜ r ≡ slot-of a b c d ⌝ }
@@ -22,13 +23,13 @@ fn slot_at(block: &[u8], at: usize) -> u32
     slot_of(block[at], block[at + 1], block[at + 2], block[at + 3])
 }
 
-pub fn slots_in(block: &[u8]) -> [u32; 20]
+pub fn slots_in(block: &[u8]) -> [u32; SLOTS]
     requires { ⌜ length (now block) ≡ block-length ⌝ }
     ensures { λ r. ⌜ r ≡ slots-in (now (block .entry)) ⌝ }
 {
-    let mut s = [0u32; 20];
+    let mut s = [0u32; SLOTS];
     let mut i: usize = 0;
-    while i < 20 {
+    while i < SLOTS {
         s[i] = slot_at(block, 4 * i);
         i += 1;
     }
@@ -59,7 +60,7 @@ fn put_slots(block: &mut [u8], s: &[u32])
     }
 }
 
-pub fn put_block(block: &mut [u8], s: &[u32; 20])
+pub fn put_block(block: &mut [u8], s: &[u32; SLOTS])
     requires { ⌜ length (now block) ≡ block-length ⌝ }
     ensures { λ _. ⌜ now (block .exit) ≡ block-of (now (s .entry)) ⌝ }
 {

@@ -6,13 +6,14 @@ use mathlib.Core.Bool.{Bool}
 use mathlib.Core.List.{List}
 use lib.ListN.{length, getD, set}
 use lib.Dec.{ltb, eqb}
+use Rattle.codes.specs.Codes.{Supervisor, Addresses, BusError, AddressError, ProgramRead, DataWrite}
 use Rattle.bits.specs.Bits.{pick, plus, by-size}
 use Rattle.bus.specs.declared.Flow.{Flow}
 use Rattle.bus.specs.declared.Fetched.{Fetched}
 
 -- the 24 bits of an address that leave the chip  [01 What the box emulates, Memory]
 abbrev pub pins : ℕ → ℕ
-pins a = a % 16777216
+pins a = a % Addresses
 
 -- what a program can see of memory: which bytes and words it may touch, and what they hold (0 elsewhere)  [ours]
 pub record View : Type 0 where
@@ -30,10 +31,26 @@ view-of m = record {
   word = λ a. pick (ltb (a + 1) (length m)) (getD m a 0 * 256 + getD m (a + 1) 0) 0;
 }
 
--- a fault in one number: the address times 256, the information word times 4, the vector. k is the information word in user state:
--- 17 data read, 18 program read, 1 data write; the supervisor's function codes are 4 more  [01 step 7]
+-- a fault in one number, never 0: the address, the information word, the vector; and each of the three as it is read again  [01 step 7]
+abbrev pub packed : ℕ → ℕ → ℕ → ℕ
+packed address information vec = address % Addresses * 256 + information * 4 + vec % 4
+
+abbrev pub fault-address : ℕ → ℕ
+fault-address bad = bad / 256
+
+abbrev pub fault-information : ℕ → ℕ
+fault-information bad = bad / 4 % 64
+
+abbrev pub fault-vector : ℕ → ℕ
+fault-vector bad = bad % 4
+
+-- the information word of an access of kind k: the supervisor's function codes are 4 more than the user's  [01 step 7]
+abbrev pub information : ℕ → ℕ → ℕ
+information k sr = k % 32 + sr / Supervisor % 2 * 4
+
+-- the flow with a fault  [01 step 7]
 abbrev pub failed : Flow → ℕ → ℕ → ℕ → Flow
-failed f v p k = record { pc = f .pc; sr = f .sr; bad = p % 16777216 * 256 + (k % 32 + f .sr / 8192 % 2 * 4) * 4 + v % 4 }
+failed f vec p k = record { pc = f .pc; sr = f .sr; bad = packed p (information k (f .sr)) vec }
 
 -- the flow with another PC, with another SR  [ours]
 abbrev pub with-pc : Flow → ℕ → Flow
@@ -50,17 +67,17 @@ unless-failed f w = pick (eqb (f .bad) 0) w (record { value = 0; flow = f })
 unfoldable pub read-byte : View → ℕ → ℕ → Flow → Fetched
 read-byte v a k f =
     unless-failed f
-    (pick (v .byte-ok (pins a)) (record { value = v .byte (pins a); flow = f }) (record { value = 0; flow = failed f 2 (pins a) k }))
+    (pick (v .byte-ok (pins a)) (record { value = v .byte (pins a); flow = f }) (record { value = 0; flow = failed f BusError (pins a) k }))
 
 -- a word at an odd address is an address error, one outside memory a bus error; odd is asked first  [01 step 6]
 unfoldable pub read-word : View → ℕ → ℕ → Flow → Fetched
 read-word v a k f =
     unless-failed f
     (pick (eqb (pins a % 2) 1)
-    (record { value = 0; flow = failed f 3 (pins a) k })
+    (record { value = 0; flow = failed f AddressError (pins a) k })
     (pick (v .word-ok (pins a))
     (record { value = v .word (pins a); flow = f })
-    (record { value = 0; flow = failed f 2 (pins a) k })))
+    (record { value = 0; flow = failed f BusError (pins a) k })))
 
 -- a long is two words, the upper first  [01 step 6]
 unfoldable pub read-long : View → ℕ → ℕ → Flow → Fetched
@@ -74,11 +91,11 @@ read-sized v a z k f = by-size z (read-byte v a k f) (read-word v a k f) (read-l
 
 -- room for a write: the same tests, and the fault is a write's  [01 step 6] [01 step 7]
 unfoldable pub room : View → ℕ → ℕ → Flow → Flow
-room v a z f = read-sized v a z 1 f .flow
+room v a z f = read-sized v a z DataWrite f .flow
 
 -- the next word of the instruction: a program read  [01 step 7]
 unfoldable pub next-word : View → Flow → Fetched
-next-word v f = let w = read-word v (f .pc) 18 f in record { value = w .value; flow = with-pc (w .flow) (plus (f .pc) 2) }
+next-word v f = let w = read-word v (f .pc) ProgramRead f in record { value = w .value; flow = with-pc (w .flow) (plus (f .pc) 2) }
 
 unfoldable pub next-long : View → Flow → Fetched
 next-long v f =

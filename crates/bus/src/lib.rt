@@ -1,6 +1,6 @@
 // lib.rt - lent memory of any length: reads with their faults, room for a write, puts, and the words of an instruction in turn.
 // Means: specs/Bus.antt.  Laws: proofs/BusLaws.antt.
-// Uses: bits.  Source: [003 2.2], [003 4.2], [01 What the box emulates], [01 step 6], [01 step 7].
+// Uses: codes, bits.  Source: [003 2.2], [003 4.2], [01 What the box emulates], [01 step 6], [01 step 7].
 ghost use mathlib.Core.Path.{_≡_};
 ghost use Prim.Native.Nat.{ℕ, _+_, _*_, _%_, _/_, _<_, _≤_};
 ghost use lib.ListN.{set};
@@ -20,14 +20,14 @@ pub struct Fetched {
     pub flow: Flow,
 }
 
-// A fault: k is 17 for a data read, 18 for a program read, 1 for a data write; the supervisor's function codes are 4 more.
+// A fault of an access of kind k; the supervisor's function codes are 4 more than the user's.
 pub fn failed(f: Flow, vec: u32, at: u32, k: u32) -> Flow
     ensures { λ r. ⌜ r ≡ failed f vec at k ⌝ }
 {
     Flow {
         pc: f.pc,
         sr: f.sr,
-        bad: at % 16777216 * 256 + (k % 32 + f.sr / 8192 % 2 * 4) * 4 + vec % 4,
+        bad: at % codes::ADDRESSES * 256 + (k % 32 + f.sr / codes::SUPERVISOR % 2 * 4) * 4 + vec % 4,
     }
 }
 
@@ -55,7 +55,7 @@ pub fn read_byte(mem: &[u8], a: u32, k: u32, f: Flow) -> Fetched
     ensures { λ r. ⌜ r ≡ read-byte (view-of (now (mem .entry))) a k f ⌝ }
     ensures { λ r. ⌜ r .value < 256 ⌝ }
 {
-    let p = a % 16777216;
+    let p = a % codes::ADDRESSES;
     let i = p as usize;
     let clean = f.bad == 0;
     if clean {
@@ -68,7 +68,7 @@ pub fn read_byte(mem: &[u8], a: u32, k: u32, f: Flow) -> Fetched
         } else {
             Fetched {
                 value: 0,
-                flow: failed(f, 2, p, k),
+                flow: failed(f, codes::BUS_ERROR, p, k),
             }
         }
     } else {
@@ -81,7 +81,7 @@ pub fn read_word(mem: &[u8], a: u32, k: u32, f: Flow) -> Fetched
     ensures { λ r. ⌜ r ≡ read-word (view-of (now (mem .entry))) a k f ⌝ }
     ensures { λ r. ⌜ r .value < 65536 ⌝ }
 {
-    let p = a % 16777216;
+    let p = a % codes::ADDRESSES;
     let i = p as usize;
     let clean = f.bad == 0;
     let odd = p % 2 == 1;
@@ -89,7 +89,7 @@ pub fn read_word(mem: &[u8], a: u32, k: u32, f: Flow) -> Fetched
         if odd {
             return Fetched {
                 value: 0,
-                flow: failed(f, 3, p, k),
+                flow: failed(f, codes::ADDRESS_ERROR, p, k),
             };
         }
         let inside = i + 1 < mem.len();
@@ -101,7 +101,7 @@ pub fn read_word(mem: &[u8], a: u32, k: u32, f: Flow) -> Fetched
         } else {
             Fetched {
                 value: 0,
-                flow: failed(f, 2, p, k),
+                flow: failed(f, codes::BUS_ERROR, p, k),
             }
         }
     } else {
@@ -145,14 +145,14 @@ pub fn room(mem: &[u8], a: u32, z: u32, f: Flow) -> Flow
     let byte = z == 0;
     let word = z == 1;
     if byte {
-        let w = read_byte(mem, a, 1, f);
+        let w = read_byte(mem, a, codes::DATA_WRITE, f);
         return w.flow;
     }
     if word {
-        let w = read_word(mem, a, 1, f);
+        let w = read_word(mem, a, codes::DATA_WRITE, f);
         return w.flow;
     }
-    let w = read_long(mem, a, 1, f);
+    let w = read_long(mem, a, codes::DATA_WRITE, f);
     w.flow
 }
 
@@ -162,7 +162,7 @@ pub fn next_word(mem: &[u8], f: Flow) -> Fetched
     ensures { λ r. ⌜ r .value < 65536 ⌝ }
 {
     let pc = f.pc;
-    let w = read_word(mem, pc, 18, f);
+    let w = read_word(mem, pc, codes::PROGRAM_READ, f);
     let g = w.flow;
     let h = with_pc(g, std::num::wrapping_add_u32(pc, 2));
     Fetched { value: w.value, flow: h }
@@ -185,7 +185,7 @@ pub fn next_long(mem: &[u8], f: Flow) -> Fetched
 pub fn put_byte(mem: &mut [u8], a: u32, v: u32)
     ensures { λ _. ⌜ now (mem .exit) ≡ put-byte (now (mem .entry)) a v ⌝ }
 {
-    let i = (a % 16777216) as usize;
+    let i = (a % codes::ADDRESSES) as usize;
     if i < mem.len() {
         mem[i] = (v % 256) as u8;
     }

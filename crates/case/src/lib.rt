@@ -1,6 +1,7 @@
 // lib.rt - one case: its step and the undo of it, each compared whole with what the line lists.
 // Means: nothing; proved safe.
-// Uses: machine, listing.  Source: [01 Calls and what they give back], crates/vectors/README.md.
+// Uses: codes, machine, listing.  Source: [01 Calls and what they give back], crates/vectors/README.md.
+use codes::SLOTS;
 use listing::setting::change_slots;
 use listing::setting::fill;
 use listing::setting::put_bytes;
@@ -51,14 +52,14 @@ fn next_mark(text: &[u8]) -> usize {
 }
 
 // Slots and memory before the step.
-fn put_before(text: &[u8], slots: &mut [u32; 20], memory: &mut [u8]) -> bool {
+fn put_before(text: &[u8], slots: &mut [u32; SLOTS], memory: &mut [u8]) -> bool {
     let slots_good = put_slots(field(text, 5), slots);
     let runs_good = put_runs(field(text, 6), memory, false);
     slots_good & runs_good
 }
 
 // What the step is to change of them, and its record.
-fn put_after(text: &[u8], slots: &mut [u32; 20], memory: &mut [u8], journal: &mut [u8]) -> bool {
+fn put_after(text: &[u8], slots: &mut [u32; SLOTS], memory: &mut [u8], journal: &mut [u8]) -> bool {
     let slots_good = change_slots(field(text, 7), slots);
     let runs_good = put_runs(field(text, 8), memory, false);
     let record_good = put_bytes(field(text, 9), journal, MARK, false);
@@ -72,7 +73,7 @@ struct Answer {
 }
 
 fn step(
-    slots: &mut [u32; 20],
+    slots: &mut [u32; SLOTS],
     memory: &mut [u8],
     level: u32,
     vector: u8,
@@ -85,7 +86,7 @@ fn step(
     }
 }
 
-fn undo(slots: &mut [u32; 20], memory: &mut [u8], journal: &[u8], mark: usize) -> Answer {
+fn undo(slots: &mut [u32; SLOTS], memory: &mut [u8], journal: &[u8], mark: usize) -> Answer {
     let answer = machine::undo(slots, memory, journal, mark);
     Answer {
         number: answer.number,
@@ -96,8 +97,8 @@ fn undo(slots: &mut [u32; 20], memory: &mut [u8], journal: &[u8], mark: usize) -
 // Takes the step, and compares with the goal.
 fn compare_step(
     text: &[u8],
-    slots: &mut [u32; 20],
-    goal: &[u32; 20],
+    slots: &mut [u32; SLOTS],
+    goal: &[u32; SLOTS],
     memory: &mut [u8],
     wanted: &[u8],
     journal: &mut [u8],
@@ -133,8 +134,8 @@ fn compare_step(
 // Undoes the step, and compares with what was before it.
 fn compare_undo(
     text: &[u8],
-    slots: &mut [u32; 20],
-    goal: &[u32; 20],
+    slots: &mut [u32; SLOTS],
+    goal: &[u32; SLOTS],
     memory: &mut [u8],
     wanted: &[u8],
     journal: &[u8],
@@ -158,8 +159,8 @@ fn compare_undo(
 // Both, where the goal and what is wanted are those after the step.
 fn compare_both(
     text: &[u8],
-    slots: &mut [u32; 20],
-    goal: &mut [u32; 20],
+    slots: &mut [u32; SLOTS],
+    goal: &mut [u32; SLOTS],
     memory: &mut [u8],
     wanted: &mut [u8],
     journal: &mut [u8],
@@ -181,8 +182,8 @@ fn with_journals(
     journal: &mut [u8],
     record: &mut [u8],
 ) -> u32 {
-    let mut slots = [0u32; 20];
-    let mut goal = [0u32; 20];
+    let mut slots = [0u32; SLOTS];
+    let mut goal = [0u32; SLOTS];
     if !put_before(text, &mut slots, memory) {
         return MALFORMED;
     }

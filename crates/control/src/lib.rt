@@ -1,10 +1,11 @@
 // lib.rt - program control: Bcc, BRA, BSR, DBcc, Scc, JMP, JSR, NOP, RTR, RTS.
 // Means: specs/Control.antt.  Laws: proofs/ControlLaws.antt.
-// Uses: bits, flags, bus, operand, plan.  Source: [003 3.8], [003 B], [01 step 6], [01 Operands], [01 Easy slips].
+// Uses: codes, bits, flags, bus, operand, plan.  Source: [003 3.8], [003 B], [01 step 6], [01 Operands], [01 Easy slips].
 ghost use mathlib.Core.Path.{_≡_};
 ghost use Rattle.bus.specs.Bus.{view-of};
 ghost use Rattle.plan.specs.Plans.{Done, nothing};
 ghost use Rattle.control.specs.Control.{displacement, jump-when, counted, branch-plan, branch-subroutine, decrement-branch, set-condition, jump-plan, jump-subroutine, return-restore, return-subroutine};
+use codes::SLOTS;
 use bus::Fetched;
 use bus::Flow;
 use flags::Flagged;
@@ -49,7 +50,7 @@ pub fn branch(mem: &[u8], op: u32, f: Flow) -> Plan
 }
 
 // BSR.
-pub fn branch_subroutine(r: &mut [u32; 20], mem: &[u8], op: u32, f: Flow) -> Plan
+pub fn branch_subroutine(r: &mut [u32; SLOTS], mem: &[u8], op: u32, f: Flow) -> Plan
     ensures { λ p. ⌜ record { r = now (r .exit); p = p } ≡ branch-subroutine (now (r .entry)) (view-of (now (mem .entry))) op f ⌝ }
 {
     let w = displacement(mem, op, f);
@@ -59,14 +60,14 @@ pub fn branch_subroutine(r: &mut [u32; 20], mem: &[u8], op: u32, f: Flow) -> Pla
 }
 
 // The counter of DBcc less 1: a word, and no more than a word of the register changes.
-fn counted(r: &[u32; 20], n: u32) -> u32
+fn counted(r: &[u32; SLOTS], n: u32) -> u32
     ensures { λ c. ⌜ c ≡ counted (now (r .entry)) n ⌝ }
 {
-    bits::cut(bits::minus(operand::get(r, n), 1) as u64, 1)
+    bits::cut(bits::minus(operand::get(r, n), 1) as u64, codes::WORD)
 }
 
 // DBcc.
-pub fn decrement_branch(r: &mut [u32; 20], mem: &[u8], op: u32, f: Flow) -> Plan
+pub fn decrement_branch(r: &mut [u32; SLOTS], mem: &[u8], op: u32, f: Flow) -> Plan
     ensures { λ p. ⌜ record { r = now (r .exit); p = p } ≡ decrement-branch (now (r .entry)) (view-of (now (mem .entry))) op f ⌝ }
 {
     let w = bus::next_word(mem, f);
@@ -76,8 +77,8 @@ pub fn decrement_branch(r: &mut [u32; 20], mem: &[u8], op: u32, f: Flow) -> Plan
         return plan::nothing(g);
     }
     let c = counted(r, op % 8);
-    operand::put_low(r, op % 8, 1, c);
-    let spent = c == 65535;
+    operand::put_low(r, op % 8, codes::WORD, c);
+    let spent = c == 0xFFFF;
     jump_when(
         !spent,
         g,
@@ -86,33 +87,33 @@ pub fn decrement_branch(r: &mut [u32; 20], mem: &[u8], op: u32, f: Flow) -> Plan
 }
 
 // Scc. The flags stay as they are.
-pub fn set_condition(r: &mut [u32; 20], mem: &[u8], op: u32, f: Flow) -> Plan
+pub fn set_condition(r: &mut [u32; SLOTS], mem: &[u8], op: u32, f: Flow) -> Plan
     ensures { λ p. ⌜ record { r = now (r .exit); p = p } ≡ set-condition (now (r .entry)) (view-of (now (mem .entry))) op f ⌝ }
 {
-    let b = operand::modify(r, mem, op / 8 % 8, op % 8, 0, f);
+    let b = operand::modify(r, mem, op / 8 % 8, op % 8, codes::BYTE, f);
     let q = b.q;
     let holds = flags::condition(f.sr, op / 256);
     let a = Flagged {
-        value: bits::bit(holds) * 255,
+        value: bits::bit(holds) * 0xFF,
         ccr: f.sr,
     };
-    plan::finish(r, q, 0, a)
+    plan::finish(r, q, codes::BYTE, a)
 }
 
 // JMP.
-pub fn jump_to(r: &[u32; 20], mem: &[u8], op: u32, f: Flow) -> Plan
+pub fn jump_to(r: &[u32; SLOTS], mem: &[u8], op: u32, f: Flow) -> Plan
     ensures { λ p. ⌜ p ≡ jump-plan (now (r .entry)) (view-of (now (mem .entry))) op f ⌝ }
 {
-    let q = operand::locate(r, mem, op / 8 % 8, op % 8, 2, f);
+    let q = operand::locate(r, mem, op / 8 % 8, op % 8, codes::LONG, f);
     let g = q.flow;
     plan::nothing(plan::jump(g, q.at))
 }
 
 // JSR. The address is formed before A7 falls.
-pub fn jump_subroutine(r: &mut [u32; 20], mem: &[u8], op: u32, f: Flow) -> Plan
+pub fn jump_subroutine(r: &mut [u32; SLOTS], mem: &[u8], op: u32, f: Flow) -> Plan
     ensures { λ p. ⌜ record { r = now (r .exit); p = p } ≡ jump-subroutine (now (r .entry)) (view-of (now (mem .entry))) op f ⌝ }
 {
-    let q = operand::locate(r, mem, op / 8 % 8, op % 8, 2, f);
+    let q = operand::locate(r, mem, op / 8 % 8, op % 8, codes::LONG, f);
     let g = q.flow;
     let h = plan::jump(g, q.at);
     plan::push(r, g.pc, h)
@@ -126,21 +127,21 @@ pub fn no_operation(f: Flow) -> Plan
 }
 
 // RTR. Of the word only the flags are taken; the jump comes before SR is written.
-pub fn return_restore(r: &mut [u32; 20], mem: &[u8], op: u32, f: Flow) -> Plan
+pub fn return_restore(r: &mut [u32; SLOTS], mem: &[u8], op: u32, f: Flow) -> Plan
     ensures { λ p. ⌜ record { r = now (r .exit); p = p } ≡ return-restore (now (r .entry)) (view-of (now (mem .entry))) op f ⌝ }
 {
-    let c = operand::source(r, mem, 3, 7, 1, f);
+    let c = operand::source(r, mem, codes::POSTINCREMENT, codes::STACK_POINTER, codes::WORD, f);
     let g = c.flow;
-    let t = operand::source(r, mem, 3, 7, 2, g);
+    let t = operand::source(r, mem, codes::POSTINCREMENT, codes::STACK_POINTER, codes::LONG, g);
     let h = t.flow;
     plan::nothing(plan::flagged(plan::jump(h, t.value), c.value))
 }
 
 // RTS.
-pub fn return_subroutine(r: &mut [u32; 20], mem: &[u8], op: u32, f: Flow) -> Plan
+pub fn return_subroutine(r: &mut [u32; SLOTS], mem: &[u8], op: u32, f: Flow) -> Plan
     ensures { λ p. ⌜ record { r = now (r .exit); p = p } ≡ return-subroutine (now (r .entry)) (view-of (now (mem .entry))) op f ⌝ }
 {
-    let t = operand::source(r, mem, 3, 7, 2, f);
+    let t = operand::source(r, mem, codes::POSTINCREMENT, codes::STACK_POINTER, codes::LONG, f);
     let g = t.flow;
     plan::nothing(plan::jump(g, t.value))
 }

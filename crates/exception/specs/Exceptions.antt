@@ -6,12 +6,13 @@ use mathlib.Core.Bool.{Bool}
 use mathlib.Core.List.{List}
 use lib.ListN.{getD, set}
 use lib.Dec.{eqb}
+use Rattle.codes.specs.Codes.{Word, Long, Ssp, Pc, Sr, Mode, Running, Halted, Supervisor, HaltEvent, event-of, DataRead}
 use Rattle.bits.specs.Bits.{pick, plus, minus}
 use Rattle.bank.specs.Bank.{long, ssp-of, pc-of, sr-of}
 use Rattle.bus.specs.declared.Flow.{Flow}
-use Rattle.bus.specs.Bus.{View, view-of, read-long, room, put-word, put-long}
+use Rattle.bus.specs.Bus.{View, view-of, read-long, room, put-word, put-long, fault-address, fault-information, fault-vector}
 
--- slots and memory, and what happened: 0 nothing, 1 more than the vector that was taken first, 257 a halt  [ours]
+-- slots and memory, and the event  [ours]
 pub record Stepped : Type 0 where
   pub s : List ℕ
   pub m : List ℕ
@@ -23,19 +24,19 @@ fresh pc sr = record { pc = pc; sr = sr; bad = 0 }
 
 -- S set, T clear  [01 step 1]
 abbrev pub supervisor-sr : ℕ → ℕ
-supervisor-sr sr = 8192 + sr % 8192
+supervisor-sr sr = Supervisor + sr % Supervisor
 
 -- a frame that cannot be written whole halts the machine, and nothing else changes  [01 step 8]
 abbrev pub halted : List ℕ → List ℕ → Stepped
-halted s m = record { s = set s 19 2; m = m; event = 257 }
+halted s m = record { s = set s Mode Halted; m = m; event = HaltEvent }
 
 -- SSP at the frame, PC from vector number times 4, running  [01 step 1]
 unfoldable pub enter : List ℕ → View → ℕ → ℕ → ℕ → List ℕ
-enter s v a vec sr = set (set (set (set s 16 a) 17 (long (read-long v (vec % 256 * 4) 17 (fresh 0 0) .value))) 18 sr) 19 0
+enter s v a vec sr = set (set (set (set s Ssp a) Pc (long (read-long v (vec % 256 * 4) DataRead (fresh 0 0) .value))) Sr sr) Mode Running
 
 -- whether the six bytes of a frame can be written: SR, then PC  [01 step 1] [01 step 8]
 unfoldable pub small-room : View → ℕ → Bool
-small-room v a = eqb (room v (plus a 2) 2 (room v a 1 (fresh 0 0)) .bad) 0
+small-room v a = eqb (room v (plus a 2) Long (room v a Word (fresh 0 0)) .bad) 0
 
 unfoldable pub small-frame : List ℕ → ℕ → ℕ → ℕ → List ℕ
 small-frame m a sr pc = put-long (put-word m a sr) (plus a 2) pc
@@ -45,19 +46,19 @@ unfoldable pub exception : List ℕ → List ℕ → ℕ → ℕ → Stepped
 exception s m vec sr =
     let a = minus (ssp-of s) 6 in
     let n = small-frame m a (sr-of s) (pc-of s) in
-    pick (small-room (view-of m) a) (record { s = enter s (view-of n) a vec sr; m = n; event = vec % 256 + 1 }) (halted s m)
+    pick (small-room (view-of m) a) (record { s = enter s (view-of n) a vec sr; m = n; event = event-of (vec % 256) }) (halted s m)
 
 -- whether the fourteen bytes of a fault's frame can be written  [01 step 7] [01 step 8]
 unfoldable pub big-room : View → ℕ → Bool
 big-room v a =
-    let g = room v a 2 (fresh 0 0) in
-    let h = room v (plus a 4) 2 g in
-    let i = room v (plus a 8) 2 h in
-    eqb (room v (plus a 12) 1 i .bad) 0
+    let g = room v a Long (fresh 0 0) in
+    let h = room v (plus a 4) Long g in
+    let i = room v (plus a 8) Long h in
+    eqb (room v (plus a 12) Word i .bad) 0
 
 -- from the lowest address: information word, access address; operation word, SR, PC  [01 step 7]
 unfoldable pub fault-access : List ℕ → ℕ → ℕ → List ℕ
-fault-access m a bad = put-long (put-word m a (bad / 4 % 64)) (plus a 2) (bad / 256)
+fault-access m a bad = put-long (put-word m a (fault-information bad)) (plus a 2) (fault-address bad)
 
 unfoldable pub fault-rest : List ℕ → ℕ → ℕ → ℕ → ℕ → List ℕ
 fault-rest m a op sr pc = small-frame (put-word m a op) (plus a 2) sr pc
@@ -69,7 +70,7 @@ big-frame m a bad op sr pc = fault-rest (fault-access m a bad) (plus a 6) op sr 
 unfoldable pub fault-taken : List ℕ → List ℕ → ℕ → ℕ → ℕ → ℕ → Stepped
 fault-taken s m a bad op pc =
     let n = big-frame m a bad op (sr-of s) pc in
-    record { s = enter s (view-of n) a (bad % 4) (supervisor-sr (sr-of s)); m = n; event = bad % 4 + 1 }
+    record { s = enter s (view-of n) a (fault-vector bad) (supervisor-sr (sr-of s)); m = n; event = event-of (fault-vector bad) }
 
 -- a bus or address error, from the slots before the instruction: the saved PC is its address plus 2  [01 step 7]
 unfoldable pub fault : List ℕ → List ℕ → ℕ → ℕ → Stepped

@@ -1,16 +1,17 @@
 // lib.rt - an exception: its frame of 6 or 14 bytes on SSP, the vector, and the halt where the frame cannot be written whole.
 // Means: specs/Exceptions.antt.  Laws: proofs/ExceptionLaws.antt.
-// Uses: bits, bank, bus, store, touch.  Source: [003 4.3], [003 4.4], [01 step 1], [01 step 7], [01 step 8].
+// Uses: codes, bits, bank, bus, store, touch.  Source: [003 4.3], [003 4.4], [01 step 1], [01 step 7], [01 step 8].
 ghost use mathlib.Core.Path.{_≡_};
 ghost use Prim.Native.Nat.{ℕ, _+_, _*_, _%_, _/_, _<_, _≤_};
 ghost use lib.ListN.{getD, set, length};
 ghost use Rattle.bus.specs.Bus.{view-of};
 ghost use Rattle.touch.specs.Touch.{LogOk, Noted};
 ghost use Rattle.exception.specs.Exceptions.{fresh, small-room, small-frame, big-room, fault-access, fault-rest, big-frame, enter, exception, fault-taken, fault, supervisor-sr};
+use codes::SLOTS;
 use bus::Flow;
 
-// How an exception, or a step, ended: the entries of the touch log, and the event: 0 nothing, 1 more than the vector taken first, or
-// 257 for a halt.
+// How an exception, or a step, ended: the entries of the touch log, and the event: none, 1 more than the vector taken first, or a
+// halt.
 pub struct Ended {
     pub n: usize,
     pub event: u32,
@@ -27,15 +28,15 @@ pub fn fresh(pc: u32, sr: u32) -> Flow
 pub fn supervisor_sr(sr: u32) -> u32
     ensures { λ r. ⌜ r ≡ supervisor-sr sr ⌝ }
 {
-    8192 + sr % 8192
+    codes::SUPERVISOR + sr % codes::SUPERVISOR
 }
 
 // Whether the six bytes of a frame can be written.
 fn small_room(mem: &[u8], a: u32) -> bool
     ensures { λ r. ⌜ r ≡ small-room (view-of (now (mem .entry))) a ⌝ }
 {
-    let g = bus::room(mem, a, 1, fresh(0, 0));
-    let h = bus::room(mem, std::num::wrapping_add_u32(a, 2), 2, g);
+    let g = bus::room(mem, a, codes::WORD, fresh(0, 0));
+    let h = bus::room(mem, std::num::wrapping_add_u32(a, 2), codes::LONG, g);
     h.bad == 0
 }
 
@@ -49,20 +50,20 @@ fn small_frame(mem: &mut [u8], log: &mut [u64], n: usize, a: u32, sr: u32, pc: u
 }
 
 // The slots as an exception leaves them: SSP at the frame, PC from the vector, which is read after the frame is written; running.
-fn enter(s: &mut [u32; 20], mem: &[u8], a: u32, vec: u32, sr: u32)
+fn enter(s: &mut [u32; SLOTS], mem: &[u8], a: u32, vec: u32, sr: u32)
     ensures { λ _. ⌜ now (s .exit) ≡ enter (now (s .entry)) (view-of (now (mem .entry))) a vec sr ⌝ }
 {
-    let w = bus::read_long(mem, vec % 256 * 4, 17, fresh(0, 0));
+    let w = bus::read_long(mem, vec % 256 * 4, codes::DATA_READ, fresh(0, 0));
     let pc = w.value;
-    s[16] = a;
-    s[17] = pc;
-    s[18] = sr;
-    s[19] = 0;
+    s[codes::SSP] = a;
+    s[codes::PC] = pc;
+    s[codes::SR] = sr;
+    s[codes::MODE] = codes::RUNNING;
 }
 
 // An exception with the small frame; sr is the SR that it leaves.
 pub fn exception(
-    s: &mut [u32; 20],
+    s: &mut [u32; SLOTS],
     mem: &mut [u8],
     log: &mut [u64],
     n: usize,
@@ -75,9 +76,9 @@ pub fn exception(
     ensures { λ r. ⌜ r .event ≡ exception (now (s .entry)) (now (mem .entry)) vec sr .event ⌝ }
     ensures { λ r. ⌜ Noted (now (mem .entry)) (now (log .entry)) n 6 (now (mem .exit)) (now (log .exit)) (r .n) ⌝ }
 {
-    let old = s[18];
-    let pc = s[17];
-    let a = bits::minus(s[16], 6);
+    let old = s[codes::SR];
+    let pc = s[codes::PC];
+    let a = bits::minus(s[codes::SSP], 6);
     let ok = small_room(mem, a);
     if ok {
         let k = small_frame(mem, log, n, a, old, pc);
@@ -87,18 +88,18 @@ pub fn exception(
             event: vec % 256 + 1,
         };
     }
-    s[19] = 2;
-    Ended { n, event: 257 }
+    s[codes::MODE] = codes::HALTED;
+    Ended { n, event: codes::HALT_EVENT }
 }
 
 // Whether the fourteen bytes of a fault's frame can be written.
 fn big_room(mem: &[u8], a: u32) -> bool
     ensures { λ r. ⌜ r ≡ big-room (view-of (now (mem .entry))) a ⌝ }
 {
-    let g = bus::room(mem, a, 2, fresh(0, 0));
-    let h = bus::room(mem, std::num::wrapping_add_u32(a, 4), 2, g);
-    let i = bus::room(mem, std::num::wrapping_add_u32(a, 8), 2, h);
-    let j = bus::room(mem, std::num::wrapping_add_u32(a, 12), 1, i);
+    let g = bus::room(mem, a, codes::LONG, fresh(0, 0));
+    let h = bus::room(mem, std::num::wrapping_add_u32(a, 4), codes::LONG, g);
+    let i = bus::room(mem, std::num::wrapping_add_u32(a, 8), codes::LONG, h);
+    let j = bus::room(mem, std::num::wrapping_add_u32(a, 12), codes::WORD, i);
     j.bad == 0
 }
 
@@ -143,7 +144,7 @@ fn big_frame(
 
 // A fault whose frame at a can be written.
 fn fault_taken(
-    s: &mut [u32; 20],
+    s: &mut [u32; SLOTS],
     mem: &mut [u8],
     log: &mut [u64],
     n: usize,
@@ -158,7 +159,7 @@ fn fault_taken(
     ensures { λ r. ⌜ r .event ≡ fault-taken (now (s .entry)) (now (mem .entry)) a bad op pc .event ⌝ }
     ensures { λ r. ⌜ Noted (now (mem .entry)) (now (log .entry)) n 14 (now (mem .exit)) (now (log .exit)) (r .n) ⌝ }
 {
-    let sr = s[18];
+    let sr = s[codes::SR];
     let k = big_frame(mem, log, n, a, bad, op, sr, pc);
     enter(s, mem, a, bad % 4, supervisor_sr(sr));
     Ended {
@@ -169,7 +170,7 @@ fn fault_taken(
 
 // The exception of a fault, from the slots as they were before the instruction: the saved PC is its address plus 2.
 pub fn fault(
-    s: &mut [u32; 20],
+    s: &mut [u32; SLOTS],
     mem: &mut [u8],
     log: &mut [u64],
     n: usize,
@@ -182,12 +183,12 @@ pub fn fault(
     ensures { λ r. ⌜ r .event ≡ fault (now (s .entry)) (now (mem .entry)) bad op .event ⌝ }
     ensures { λ r. ⌜ Noted (now (mem .entry)) (now (log .entry)) n 14 (now (mem .exit)) (now (log .exit)) (r .n) ⌝ }
 {
-    let pc = std::num::wrapping_add_u32(s[17], 2);
-    let a = bits::minus(s[16], 14);
+    let pc = std::num::wrapping_add_u32(s[codes::PC], 2);
+    let a = bits::minus(s[codes::SSP], 14);
     let ok = big_room(mem, a);
     if ok {
         return fault_taken(s, mem, log, n, a, bad, op, pc);
     }
-    s[19] = 2;
-    Ended { n, event: 257 }
+    s[codes::MODE] = codes::HALTED;
+    Ended { n, event: codes::HALT_EVENT }
 }

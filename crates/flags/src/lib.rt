@@ -1,6 +1,6 @@
 // lib.rt - the five flags X N Z V C as one number, a value with its flags, and the sixteen conditions.
 // Means: specs/Flags.antt.  Laws: proofs/FlagsLaws.antt.
-// Uses: bits.  Source: [003 1.3.2], [003 A-2], [003 B DBcc], [01 What the box emulates].
+// Uses: codes, bits.  Source: [003 1.3.2], [003 A-2], [003 B DBcc], [01 What the box emulates].
 ghost use mathlib.Core.Path.{_≡_};
 ghost use Prim.Native.Nat.{ℕ, _+_, _*_, _%_, _/_, _<_, _≤_};
 ghost use lib.Dec.{eqb};
@@ -53,14 +53,17 @@ pub fn c_of(sr: u32) -> bool
 pub fn with_ccr(sr: u32, c: u32) -> u32
     ensures { λ r. ⌜ r ≡ with-ccr sr c ⌝ }
 {
-    bits::joined(sr, sr % 32, c % 32)
+    bits::joined(sr, sr % codes::FLAGS, c % codes::FLAGS)
 }
 
 // The bits that a status register has, $A71F; a write to it drops the others.
 pub fn sr_bits(x: u32) -> u32
     ensures { λ r. ⌜ r ≡ sr-bits x ⌝ }
 {
-    x % 32 + x / 256 % 8 * 256 + x / 8192 % 2 * 8192 + x / 32768 % 2 * 32768
+    x % codes::FLAGS
+        + x / codes::MASK % 8 * codes::MASK
+        + x / codes::SUPERVISOR % 2 * codes::SUPERVISOR
+        + x / codes::TRACE % 2 * codes::TRACE
 }
 
 // Condition j, from 0 to 15, of four flags.

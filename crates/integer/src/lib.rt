@@ -1,12 +1,13 @@
 // lib.rt - integer arithmetic, logic and decimal instructions: operands read, the result put or planned, the flags set.
 // Means: specs/Integer.antt.  Laws: proofs/IntegerLaws.antt.
-// Uses: bits, flags, alu, decimal, signed, bus, operand, plan.  Source: [003 3.3], [003 3.4], [003 3.7], [003 B], [01 Operands], [01 Arithmetic].
+// Uses: codes, bits, flags, alu, decimal, signed, bus, operand, plan.  Source: [003 3.3], [003 3.4], [003 3.7], [003 B], [01 Operands], [01 Arithmetic].
 ghost use mathlib.Core.Path.{_≡_};
 ghost use Rattle.bus.specs.Bus.{view-of};
 ghost use Rattle.plan.specs.Plans.{Done};
 ghost use Rattle.integer.specs.Integer.{binary, address-sum, continuing, unary-result, product-by, quotient-by, only-flags, into-register, onto, alone};
 ghost use Rattle.integer.specs.Integer.{to-register, to-memory, immediate-to, compare-immediate, quick-to, quick-sum, to-address, compare-address};
 ghost use Rattle.integer.specs.Integer.{paired, compare-memory, unary, extend, test, multiply, divide};
+use codes::SLOTS;
 use bus::Flow;
 use flags::Flagged;
 use plan::Plan;
@@ -91,7 +92,7 @@ fn only_flags(a: Flagged, f: Flow) -> Plan
 }
 
 // A result and its flags, to register n.
-fn into_register(r: &mut [u32; 20], n: u32, z: u32, a: Flagged, f: Flow) -> Plan
+fn into_register(r: &mut [u32; SLOTS], n: u32, z: u32, a: Flagged, f: Flow) -> Plan
     ensures { λ p. ⌜ record { r = now (r .exit); p = p } ≡ into-register (now (r .entry)) n z a f ⌝ }
 {
     operand::put_low(r, n, z, a.value);
@@ -99,7 +100,7 @@ fn into_register(r: &mut [u32; 20], n: u32, z: u32, a: Flagged, f: Flow) -> Plan
 }
 
 // ADD, SUB, AND, OR, CMP <ea>,Dn.
-pub fn to_register(which: u32, r: &mut [u32; 20], mem: &[u8], op: u32, f: Flow) -> Plan
+pub fn to_register(which: u32, r: &mut [u32; SLOTS], mem: &[u8], op: u32, f: Flow) -> Plan
     ensures { λ p. ⌜ record { r = now (r .exit); p = p } ≡ to-register which (now (r .entry)) (view-of (now (mem .entry))) op f ⌝ }
 {
     let z = op / 64 % 4;
@@ -111,7 +112,7 @@ pub fn to_register(which: u32, r: &mut [u32; 20], mem: &[u8], op: u32, f: Flow) 
 }
 
 // A source b onto the operand of the operation word's mode.
-fn onto(which: u32, b: u32, r: &mut [u32; 20], mem: &[u8], op: u32, f: Flow) -> Plan
+fn onto(which: u32, b: u32, r: &mut [u32; SLOTS], mem: &[u8], op: u32, f: Flow) -> Plan
     ensures { λ p. ⌜ record { r = now (r .exit); p = p } ≡ onto which b (now (r .entry)) (view-of (now (mem .entry))) op f ⌝ }
 {
     let z = op / 64 % 4;
@@ -122,7 +123,7 @@ fn onto(which: u32, b: u32, r: &mut [u32; 20], mem: &[u8], op: u32, f: Flow) -> 
 }
 
 // ADD, SUB, AND, OR, EOR Dn,<ea>.
-pub fn to_memory(which: u32, r: &mut [u32; 20], mem: &[u8], op: u32, f: Flow) -> Plan
+pub fn to_memory(which: u32, r: &mut [u32; SLOTS], mem: &[u8], op: u32, f: Flow) -> Plan
     ensures { λ p. ⌜ record { r = now (r .exit); p = p } ≡ to-memory which (now (r .entry)) (view-of (now (mem .entry))) op f ⌝ }
 {
     let b = operand::get(r, op / 512 % 8);
@@ -130,7 +131,7 @@ pub fn to_memory(which: u32, r: &mut [u32; 20], mem: &[u8], op: u32, f: Flow) ->
 }
 
 // ADDI, SUBI, ANDI, ORI, EORI.
-pub fn immediate_to(which: u32, r: &mut [u32; 20], mem: &[u8], op: u32, f: Flow) -> Plan
+pub fn immediate_to(which: u32, r: &mut [u32; SLOTS], mem: &[u8], op: u32, f: Flow) -> Plan
     ensures { λ p. ⌜ record { r = now (r .exit); p = p } ≡ immediate-to which (now (r .entry)) (view-of (now (mem .entry))) op f ⌝ }
 {
     let i = operand::immediate(mem, op / 64 % 4, f);
@@ -139,7 +140,7 @@ pub fn immediate_to(which: u32, r: &mut [u32; 20], mem: &[u8], op: u32, f: Flow)
 }
 
 // CMPI.
-pub fn compare_immediate(r: &mut [u32; 20], mem: &[u8], op: u32, f: Flow) -> Plan
+pub fn compare_immediate(r: &mut [u32; SLOTS], mem: &[u8], op: u32, f: Flow) -> Plan
     ensures { λ p. ⌜ record { r = now (r .exit); p = p } ≡ compare-immediate (now (r .entry)) (view-of (now (mem .entry))) op f ⌝ }
 {
     let z = op / 64 % 4;
@@ -151,28 +152,28 @@ pub fn compare_immediate(r: &mut [u32; 20], mem: &[u8], op: u32, f: Flow) -> Pla
 }
 
 // ADDQ, SUBQ to a place that is no address register.
-pub fn quick_to(which: u32, r: &mut [u32; 20], mem: &[u8], op: u32, f: Flow) -> Plan
+pub fn quick_to(which: u32, r: &mut [u32; SLOTS], mem: &[u8], op: u32, f: Flow) -> Plan
     ensures { λ p. ⌜ record { r = now (r .exit); p = p } ≡ quick-to which (now (r .entry)) (view-of (now (mem .entry))) op f ⌝ }
 {
     onto(which, plan::quick(op), r, mem, op, f)
 }
 
 // ADDQ, SUBQ to An: 32 bits at any size, and no flag.
-pub fn quick_address(which: u32, r: &mut [u32; 20], op: u32, f: Flow) -> Plan
+pub fn quick_address(which: u32, r: &mut [u32; SLOTS], op: u32, f: Flow) -> Plan
     ensures { λ p. ⌜ record { r = now (r .exit); p = p } ≡ quick-sum which (now (r .entry)) op f ⌝ }
 {
-    let n = 8 + op % 8;
+    let n = codes::A0 + op % 8;
     let a = address_sum(which, operand::get(r, n), plan::quick(op));
     operand::put(r, n, a);
     plan::nothing(f)
 }
 
 // ADDA, SUBA: the address register as the source's step left it.
-pub fn to_address(which: u32, r: &mut [u32; 20], mem: &[u8], op: u32, f: Flow) -> Plan
+pub fn to_address(which: u32, r: &mut [u32; SLOTS], mem: &[u8], op: u32, f: Flow) -> Plan
     ensures { λ p. ⌜ record { r = now (r .exit); p = p } ≡ to-address which (now (r .entry)) (view-of (now (mem .entry))) op f ⌝ }
 {
     let z = 1 + op / 256 % 2;
-    let n = 8 + op / 512 % 8;
+    let n = codes::A0 + op / 512 % 8;
     let w = operand::source(r, mem, op / 8 % 8, op % 8, z, f);
     let g = w.flow;
     let b = bits::sign_extended(w.value, z);
@@ -182,23 +183,23 @@ pub fn to_address(which: u32, r: &mut [u32; 20], mem: &[u8], op: u32, f: Flow) -
 }
 
 // CMPA: 32 bits, the address register as the source's step left it.
-pub fn compare_address(r: &mut [u32; 20], mem: &[u8], op: u32, f: Flow) -> Plan
+pub fn compare_address(r: &mut [u32; SLOTS], mem: &[u8], op: u32, f: Flow) -> Plan
     ensures { λ p. ⌜ record { r = now (r .exit); p = p } ≡ compare-address (now (r .entry)) (view-of (now (mem .entry))) op f ⌝ }
 {
     let z = 1 + op / 256 % 2;
-    let n = 8 + op / 512 % 8;
+    let n = codes::A0 + op / 512 % 8;
     let w = operand::source(r, mem, op / 8 % 8, op % 8, z, f);
     let g = w.flow;
     let b = bits::sign_extended(w.value, z);
-    only_flags(alu::compare(operand::get(r, n), b, f.sr, 2), g)
+    only_flags(alu::compare(operand::get(r, n), b, f.sr, codes::LONG), g)
 }
 
 // ADDX, SUBX, ABCD, SBCD: Dy,Dx or -(Ay),-(Ax).
-pub fn paired(which: u32, r: &mut [u32; 20], mem: &[u8], op: u32, f: Flow) -> Plan
+pub fn paired(which: u32, r: &mut [u32; SLOTS], mem: &[u8], op: u32, f: Flow) -> Plan
     ensures { λ p. ⌜ record { r = now (r .exit); p = p } ≡ paired which (now (r .entry)) (view-of (now (mem .entry))) op f ⌝ }
 {
     let z = op / 64 % 4;
-    let mode = op / 8 % 2 * 4;
+    let mode = op / 8 % 2 * codes::PREDECREMENT;
     let s = operand::source(r, mem, mode, op % 8, z, f);
     let g = s.flow;
     let d = operand::modify(r, mem, mode, op / 512 % 8, z, g);
@@ -208,19 +209,19 @@ pub fn paired(which: u32, r: &mut [u32; 20], mem: &[u8], op: u32, f: Flow) -> Pl
 }
 
 // CMPM (Ay)+,(Ax)+.
-pub fn compare_memory(r: &mut [u32; 20], mem: &[u8], op: u32, f: Flow) -> Plan
+pub fn compare_memory(r: &mut [u32; SLOTS], mem: &[u8], op: u32, f: Flow) -> Plan
     ensures { λ p. ⌜ record { r = now (r .exit); p = p } ≡ compare-memory (now (r .entry)) (view-of (now (mem .entry))) op f ⌝ }
 {
     let z = op / 64 % 4;
-    let s = operand::source(r, mem, 3, op % 8, z, f);
+    let s = operand::source(r, mem, codes::POSTINCREMENT, op % 8, z, f);
     let g = s.flow;
-    let d = operand::source(r, mem, 3, op / 512 % 8, z, g);
+    let d = operand::source(r, mem, codes::POSTINCREMENT, op / 512 % 8, z, g);
     let h = d.flow;
     only_flags(alu::compare(d.value, s.value, f.sr, z), h)
 }
 
 // The operand of the operation word's mode, alone.
-fn alone(which: u32, z: u32, r: &mut [u32; 20], mem: &[u8], op: u32, f: Flow) -> Plan
+fn alone(which: u32, z: u32, r: &mut [u32; SLOTS], mem: &[u8], op: u32, f: Flow) -> Plan
     ensures { λ p. ⌜ record { r = now (r .exit); p = p } ≡ alone which z (now (r .entry)) (view-of (now (mem .entry))) op f ⌝ }
 {
     let d = operand::modify(r, mem, op / 8 % 8, op % 8, z, f);
@@ -230,21 +231,21 @@ fn alone(which: u32, z: u32, r: &mut [u32; 20], mem: &[u8], op: u32, f: Flow) ->
 }
 
 // NEG, NEGX, NOT, CLR, NBCD, TAS. TAS, a byte, has 3 for its size.
-pub fn unary(which: u32, r: &mut [u32; 20], mem: &[u8], op: u32, f: Flow) -> Plan
+pub fn unary(which: u32, r: &mut [u32; SLOTS], mem: &[u8], op: u32, f: Flow) -> Plan
     ensures { λ p. ⌜ record { r = now (r .exit); p = p } ≡ unary which (now (r .entry)) (view-of (now (mem .entry))) op f ⌝ }
 {
     alone(which, op / 64 % 4 % 3, r, mem, op, f)
 }
 
 // EXT: the operation word's mode is 0, a data register.
-pub fn extend(r: &mut [u32; 20], mem: &[u8], op: u32, f: Flow) -> Plan
+pub fn extend(r: &mut [u32; SLOTS], mem: &[u8], op: u32, f: Flow) -> Plan
     ensures { λ p. ⌜ record { r = now (r .exit); p = p } ≡ extend (now (r .entry)) (view-of (now (mem .entry))) op f ⌝ }
 {
-    alone(6, 1 + op / 64 % 2, r, mem, op, f)
+    alone(codes::EXTEND, 1 + op / 64 % 2, r, mem, op, f)
 }
 
 // TST.
-pub fn test(r: &mut [u32; 20], mem: &[u8], op: u32, f: Flow) -> Plan
+pub fn test(r: &mut [u32; SLOTS], mem: &[u8], op: u32, f: Flow) -> Plan
     ensures { λ p. ⌜ record { r = now (r .exit); p = p } ≡ test (now (r .entry)) (view-of (now (mem .entry))) op f ⌝ }
 {
     let z = op / 64 % 4;
@@ -254,28 +255,28 @@ pub fn test(r: &mut [u32; 20], mem: &[u8], op: u32, f: Flow) -> Plan
 }
 
 // MULS, MULU <ea>,Dn.
-pub fn multiply(which: u32, r: &mut [u32; 20], mem: &[u8], op: u32, f: Flow) -> Plan
+pub fn multiply(which: u32, r: &mut [u32; SLOTS], mem: &[u8], op: u32, f: Flow) -> Plan
     ensures { λ p. ⌜ record { r = now (r .exit); p = p } ≡ multiply which (now (r .entry)) (view-of (now (mem .entry))) op f ⌝ }
 {
     let n = op / 512 % 8;
-    let w = operand::source(r, mem, op / 8 % 8, op % 8, 1, f);
+    let w = operand::source(r, mem, op / 8 % 8, op % 8, codes::WORD, f);
     let g = w.flow;
     let a = product_by(which, operand::get(r, n), w.value, f.sr);
-    into_register(r, n, 2, a, g)
+    into_register(r, n, codes::LONG, a, g)
 }
 
 // DIVS, DIVU: a zero divisor traps, with the flags set and the source's step kept.
-pub fn divide(which: u32, r: &mut [u32; 20], mem: &[u8], op: u32, f: Flow) -> Plan
+pub fn divide(which: u32, r: &mut [u32; SLOTS], mem: &[u8], op: u32, f: Flow) -> Plan
     ensures { λ p. ⌜ record { r = now (r .exit); p = p } ≡ divide which (now (r .entry)) (view-of (now (mem .entry))) op f ⌝ }
 {
     let n = op / 512 % 8;
-    let w = operand::source(r, mem, op / 8 % 8, op % 8, 1, f);
+    let w = operand::source(r, mem, op / 8 % 8, op % 8, codes::WORD, f);
     let g = w.flow;
     let d = quotient_by(which, operand::get(r, n), w.value, f.sr);
     let h = plan::flagged(g, d.ccr);
     let zero = d.zero;
     if zero {
-        return plan::trapping(5, h);
+        return plan::trapping(codes::ZERO_DIVIDE, h);
     }
     operand::put(r, n, d.value);
     plan::nothing(h)

@@ -1,6 +1,7 @@
 // setting.rt - puts what a line lists into slots and bytes, and compares.
 // Means: nothing; proved safe.
-// Uses: text.  Source: [ours], crates/vectors/README.md.
+// Uses: codes, text.  Source: [ours], crates/vectors/README.md.
+use codes::SLOTS;
 use crate::text::NO_BYTE;
 use crate::text::NO_NUMBER;
 use crate::text::byte_at;
@@ -73,8 +74,8 @@ pub fn put_runs(runs: &[u8], to: &mut [u8], clear: bool) -> bool {
     good
 }
 
-fn put_slot(slots: &mut [u32; 20], k: usize, value: u64) -> bool {
-    if 20 <= k {
+fn put_slot(slots: &mut [u32; SLOTS], k: usize, value: u64) -> bool {
+    if SLOTS <= k {
         return false;
     }
     if NO_NUMBER <= value {
@@ -84,10 +85,13 @@ fn put_slot(slots: &mut [u32; 20], k: usize, value: u64) -> bool {
     true
 }
 
-// Puts the twenty values of a list.
-pub fn put_slots(list: &[u8], slots: &mut [u32; 20]) -> bool {
-    let mut good = marks(list, b',') == 19;
-    for k in 0..20usize {
+// Between the values of a list of slots.
+const COMMAS: usize = SLOTS - 1;
+
+// Puts the values of a list of all slots.
+pub fn put_slots(list: &[u8], slots: &mut [u32; SLOTS]) -> bool {
+    let mut good = marks(list, b',') == COMMAS;
+    for k in 0..SLOTS {
         let put = put_slot(slots, k, number(piece(list, b',', k)));
         good = good & put;
     }
@@ -95,7 +99,7 @@ pub fn put_slots(list: &[u8], slots: &mut [u32; 20]) -> bool {
 }
 
 // A change is a slot's number in base 10, an equals sign and a value.
-fn change_slot(change: &[u8], slots: &mut [u32; 20]) -> bool {
+fn change_slot(change: &[u8], slots: &mut [u32; SLOTS]) -> bool {
     if marks(change, b'=') != 1 {
         return false;
     }
@@ -104,7 +108,7 @@ fn change_slot(change: &[u8], slots: &mut [u32; 20]) -> bool {
 }
 
 // Puts the values of a list of changes.
-pub fn change_slots(changes: &[u8], slots: &mut [u32; 20]) -> bool {
+pub fn change_slots(changes: &[u8], slots: &mut [u32; SLOTS]) -> bool {
     if is_none(changes) {
         return true;
     }
@@ -123,9 +127,9 @@ pub fn fill(to: &mut [u8]) {
     }
 }
 
-pub fn same_slots(a: &[u32; 20], b: &[u32; 20]) -> bool {
+pub fn same_slots(a: &[u32; SLOTS], b: &[u32; SLOTS]) -> bool {
     let mut d: u32 = 0;
-    for i in 0..20usize {
+    for i in 0..SLOTS {
         d = d | (a[i] ^ b[i]);
     }
     d == 0

@@ -1,8 +1,9 @@
 // text.rt - the pieces of a line, and the numbers that they spell.
 // Means: nothing; proved safe.
-// Uses: nothing.  Source: [ours], crates/vectors/README.md.
+// Uses: codes.  Source: [ours], crates/vectors/README.md.
 ghost use Prim.Native.Nat.{_≤_};
 ghost use lib.ListN.{length};
+use codes::SLOTS;
 
 // What `number` answers where there is none.
 pub const NO_NUMBER: u64 = 4294967296;
@@ -112,26 +113,26 @@ pub fn number(text: &[u8]) -> u64 {
     spelled(n)
 }
 
-// The number below 20 that text spells in base 10, else 20.
+// The number of a slot that text spells in base 10, else how many there are: the numbers have one digit, or two of which the first is 1.
 pub fn slot_number(text: &[u8]) -> usize {
     if text.len() == 1 {
         let n = digit(text[0]);
         if n < 10 {
             return n as usize;
         }
-        return 20;
+        return SLOTS;
     }
     if text.len() != 2 {
-        return 20;
+        return SLOTS;
     }
     let n = digit(text[1]);
     if text[0] != b'1' {
-        return 20;
+        return SLOTS;
     }
     if n < 10 {
         return 10 + n as usize;
     }
-    20
+    SLOTS
 }
 
 // The byte that digits 2 * i and 2 * i + 1 of text spell.

@@ -1,5 +1,5 @@
 -- CallLaws.antt - the laws that the calls' functions cite: a refusal given or passed over, reset's slots, a step that is taken.
--- refuse, pass, refuse-not, pass-not; state-fits-is; reset-slots-is, reset-done, reset-misfit; taken-.. ; step-.., run-.., undo-.. of the public calls.
+-- refuse, pass, refuse-not, pass-not; state-fits-is; reset-slots-is, reset-done, reset-misfit; taken; step-.., run-.., undo-.. of the public calls.
 -- Uses: bits, bus, bank, record, touch, undo, exception, step.
 use Prim.Native.Nat.{ℕ, zero, suc, _+_, _-_, _%_, _≤_, _<_, _^_}
 use native.Mathlib.Omega.{arith}
@@ -89,12 +89,15 @@ valid-lent s m size words bytes fits ok =
 
 -- a step that is taken: t, m₁, ev are what it gives, l₁ the log of n entries
 module _ (s m j l : List ℕ) (level vector mark : ℕ) (valid : Valid s m) (room : mark + longest-record ≤ length j) (t m₁ l₁ : List ℕ) (n ev : ℕ)
-    (e1 : t ≡ one-step s m level vector .s) (e2 : m₁ ≡ one-step s m level vector .m) (e3 : ev ≡ one-step s m level vector .event) (noted : Noted m l 0 byte-limit m₁ l₁ n) where
+    (e : (t ≡ one-step s m level vector .s) × ((m₁ ≡ one-step s m level vector .m) × ((ev ≡ one-step s m level vector .event) × Noted m l 0 byte-limit m₁ l₁ n))) where
+  noted : Noted m l 0 byte-limit m₁ l₁ n
+  noted = e .1 .1 .1
+
   abbrev logged : List ℕ
   logged = step-record s t (restore (changes l₁ n) m₁) m₁
 
   recorded : logged ≡ step-record s (one-step s m level vector .s) m (one-step s m level vector .m)
-  recorded = rw (noted .start, e1, e2)
+  recorded = rw (noted .start, e .0, e .1 .0)
 
   short : length logged ≤ longest-record
   short = rw recorded (record-room s m level vector valid)
@@ -102,35 +105,27 @@ module _ (s m j l : List ℕ) (level vector mark : ℕ) (valid : Valid s m) (roo
   pub record-fits : mark + length logged ≤ length j
   record-fits = let h = short in omega arith
 
-  pub taken-slots : t ≡ step-taken s m level vector j mark .s
-  unfolding step-taken
-  taken-slots = e1
-
-  pub taken-memory : m₁ ≡ step-taken s m level vector j mark .m
-  unfolding step-taken
-  taken-memory = e2
-
-  module _ (j₁ : List ℕ) (r : ℕ) (q1 : r ≡ mark + length logged) (q2 : j₁ ≡ written j mark logged) where
-    pub taken-journal : j₁ ≡ step-taken s m level vector j mark .j
-    unfolding step-taken
-    taken-journal = q2 ∙ ap (λ (b : List ℕ). written j mark b) recorded
-
-    pub taken-answer : record { number = 0; event = ev; mark = r } ≡ step-taken s m level vector j mark .a
-    unfolding step-taken
-    taken-answer = let q : r ≡ mark + length (step-record s (one-step s m level vector .s) m (one-step s m level vector .m)) = q1 ∙ ap (λ (b : List ℕ). mark + length b) recorded in cc
-
-    pub taken-goes-on : GoesOn t m m₁ j j₁ l l₁ r
-    taken-goes-on =
+  module _ (j₁ : List ℕ) (r : ℕ) (q : (r ≡ mark + length logged) × (j₁ ≡ written j mark logged)) where
+    goes-on : GoesOn t m m₁ j j₁ l l₁ r
+    goes-on =
         let v = valid-after-step s m level vector valid in
-        let g : length j₁ ≡ length j = ap length q2 ∙ length-written j mark logged record-fits in
+        let g : length j₁ ≡ length j = ap length (q .1) ∙ length-written j mark logged record-fits in
         record {
-          state = rw e1 (state-fits-when (one-step s m level vector .s) (one-step s m level vector .m) v);
-          memory = rw e2 (v .fits);
+          state = rw (e .0) (state-fits-when (one-step s m level vector .s) (one-step s m level vector .m) v);
+          memory = rw (e .1 .0) (v .fits);
           same-memory = noted .same;
           same-journal = g;
           same-log = noted .long;
-          inside = let h = record-fits in omega arith;
+          inside = omega (arith, record-fits, q .0);
         }
+
+    pub taken : let c = step-taken s m level vector j mark in
+        (t ≡ c .s) × ((m₁ ≡ c .m) × ((j₁ ≡ c .j) × ((record { number = 0; event = ev; mark = r } ≡ c .a) × GoesOn t m m₁ j j₁ l l₁ r)))
+    unfolding step-taken
+    taken =
+        let x = e .1 .1 .0 in
+        let y = q .0 ∙ ap (λ (b : List ℕ). mark + length b) recorded in
+        (e .0, (e .1 .0, (q .1 ∙ ap (written j mark) recorded, (rw (x, y), goes-on))))
 
 -- undo's answer
 module _ (mark : ℕ) (a : Answer) where

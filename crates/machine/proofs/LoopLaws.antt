@@ -1,5 +1,5 @@
 -- LoopLaws.antt - the loop of a run: what is left of it, done now, gives the whole run's answer.
--- Going, going-start, going-again; going-spent and the four other reasons; parts-of-run.
+-- Going, going-start, going-again; going-spent and the four other reasons; going-requires.
 -- Uses: bits, bank, record, step.
 use Prim.Native.Nat.{ℕ, zero, suc, _+_, _-_, _≤_, _<_}
 use native.Mathlib.Omega.{arith}
@@ -33,10 +33,20 @@ pub going-start : (b stop : ℕ) (s m j : List ℕ) (mark : ℕ) (l : List ℕ) 
 going-start b stop s m j mark l f h k t =
     record { le = omega arith; rest = (let e : b - 0 ≡ b = omega arith in rw e); state = t; memory = f; same-memory = refl; same-journal = refl; same-log = refl; room = k; inside = h }
 
-module _ (b stop : ℕ) (s₀ m₀ j₀ : List ℕ) (mark₀ : ℕ) (l₀ s m j : List ℕ) (mark : ℕ) (l : List ℕ) (n : ℕ) (i : Going b stop s₀ m₀ j₀ mark₀ l₀ s m j mark l n) where
-  pub going-spent : leb b n ≡ true → ended 1 n s m j mark ≡ running b 0 stop s₀ m₀ j₀ mark₀
+module _ {b stop : ℕ} {s₀ m₀ j₀ : List ℕ} {mark₀ : ℕ} {l₀ s m j : List ℕ} {mark : ℕ} {l : List ℕ} {n : ℕ}
+    (i : Going b stop s₀ m₀ j₀ mark₀ l₀ s m j mark l n) where
+  -- the run gives what is there now, and reason k
+  abbrev Gives : ℕ → Type 0
+  Gives k =
+      let o = running b 0 stop s₀ m₀ j₀ mark₀ in
+      (s ≡ o .s) × ((m ≡ o .m) × ((j ≡ o .j) × (record { number = 0; reason = k; mark = mark; steps = n } ≡ o .a)))
+
+  gives : (k : ℕ) → ended k n s m j mark ≡ running b 0 stop s₀ m₀ j₀ mark₀ → Gives k
+  gives k e = (ap (λ (o : RunCall). o .s) e, (ap (λ (o : RunCall). o .m) e, (ap (λ (o : RunCall). o .j) e, ap (λ (o : RunCall). o .a) e)))
+
+  pub going-spent : leb b n ≡ true → Gives 1
   unfolding running
-  going-spent p = let z : b - n ≡ 0 = (let h : b ≤ n = leb-true b n p in omega arith) in rw z at (i .rest)
+  going-spent p = let z : b - n ≡ 0 = (let h : b ≤ n = leb-true b n p in omega arith) in gives 1 (rw z at (i .rest))
 
   module _ (p : leb b n ≡ false) where
     more : b - n ≡ suc (b - (n + 1))
@@ -45,24 +55,24 @@ module _ (b stop : ℕ) (s₀ m₀ j₀ : List ℕ) (mark₀ : ℕ) (l₀ s m j 
     now-left : running (suc (b - (n + 1))) n stop s m j mark ≡ running b 0 stop s₀ m₀ j₀ mark₀
     now-left = rw more at (i .rest)
 
-    pub going-halted : eqb (mode-of s) 2 ≡ true → ended 2 n s m j mark ≡ running b 0 stop s₀ m₀ j₀ mark₀
+    pub going-halted : eqb (mode-of s) 2 ≡ true → Gives 2
     unfolding running
-    going-halted h = rw h at now-left
+    going-halted h = gives 2 (rw h at now-left)
 
     module _ (h2 : eqb (mode-of s) 2 ≡ false) where
-      pub going-stopped : eqb (mode-of s) 1 ≡ true → ended 3 n s m j mark ≡ running b 0 stop s₀ m₀ j₀ mark₀
+      pub going-stopped : eqb (mode-of s) 1 ≡ true → Gives 3
       unfolding running
-      going-stopped h = rw (h2, h) at now-left
+      going-stopped h = gives 3 (rw (h2, h) at now-left)
 
       module _ (h3 : eqb (mode-of s) 1 ≡ false) where
-        pub going-full : ltb (length j - mark) longest-record ≡ true → ended 4 n s m j mark ≡ running b 0 stop s₀ m₀ j₀ mark₀
+        pub going-full : ltb (length j - mark) longest-record ≡ true → Gives 4
         unfolding running
-        going-full h = rw (h2, h3, h) at now-left
+        going-full h = gives 4 (rw (h2, h3, h) at now-left)
 
         module _ (h4 : ltb (length j - mark) longest-record ≡ false) where
-          pub going-there : eqb (pc-of s) stop ≡ true → ended 5 n s m j mark ≡ running b 0 stop s₀ m₀ j₀ mark₀
+          pub going-there : eqb (pc-of s) stop ≡ true → Gives 5
           unfolding running
-          going-there h = rw (h2, h3, h4, h) at now-left
+          going-there h = gives 5 (rw (h2, h3, h4, h) at now-left)
 
           module _ (h5 : eqb (pc-of s) stop ≡ false) (s₁ m₁ j₁ l₁ : List ℕ) (a : StepAnswer) (e1 : s₁ ≡ step-taken s m 0 0 j mark .s) (e2 : m₁ ≡ step-taken s m 0 0 j mark .m)
               (e3 : j₁ ≡ step-taken s m 0 0 j mark .j) (e4 : a ≡ step-taken s m 0 0 j mark .a) (g : GoesOn s₁ m m₁ j j₁ l l₁ (a .mark)) where
@@ -90,7 +100,3 @@ module _ (b stop : ℕ) (s₀ m₀ j₀ : List ℕ) (mark₀ : ℕ) (l₀ s m j 
   -- what a step asks for
   pub going-requires : ltb (length j - mark) longest-record ≡ false → (memory-fits m ≡ true) × (mark + longest-record ≤ length j) × (byte-limit ≤ length l) × (state-fits s ≡ true)
   going-requires h = (i .memory, (let k = ltb-false (length j - mark) longest-record h in let d = i .inside in omega arith), i .room, i .state)
-
--- the parts of a run's answer
-pub parts-of-run : {k n mark : ℕ} {s m j : List ℕ} {o : RunCall} → ended k n s m j mark ≡ o → (s ≡ o .s) × ((m ≡ o .m) × ((j ≡ o .j) × (record { number = 0; reason = k; mark = mark; steps = n } ≡ o .a)))
-parts-of-run e = (ap (λ (o : RunCall). o .s) e, (ap (λ (o : RunCall). o .m) e, (ap (λ (o : RunCall). o .j) e, ap (λ (o : RunCall). o .a) e)))

@@ -11,9 +11,10 @@ use native.Mathlib.Omega.{arith}
 use lib.ListN.{length, getD, List·getD-eq-default}
 use lib.Dec.{ltb, leb, eqb}
 use borrow.Author.Tests.{le-leb, leb-true, eqb-true, ltb-true, ltb-false}
+use Rattle.codes.specs.Codes.{Sr, Mode}
 use Rattle.bits.proofs.BitsLaws.{and-left, and-right}
 use Rattle.bank.specs.Bank.{sr-of, mode-of}
-use Rattle.record.specs.Limits.{slot-limit, longest-record, status-slot, mode-slot, valid-status, valid-value, Each, ValidSlots, ValidBytes}
+use Rattle.record.specs.Limits.{slot-limit, longest-record, valid-status, valid-value, Each, ValidSlots, ValidBytes}
 use Rattle.record.specs.Change.{step-record}
 use Rattle.record.proofs.DiffLaws.{each-implies}
 use Rattle.record.proofs.SizeLaws.{record-length, valid-slots-from}
@@ -87,8 +88,8 @@ module _ (s m : List ℕ) (v : Valid s m) where
   pub state-fits-when : state-fits s ≡ true
   unfolding valid-value
   state-fits-when =
-      let status : valid-status (sr-of s) ≡ true = value-at status-slot (omega arith) .0 in
-      let mode : ltb (mode-of s) 3 ≡ true = value-at mode-slot (omega arith) .0 in
+      let status : valid-status (sr-of s) ≡ true = value-at Sr (omega arith) .0 in
+      let mode : ltb (mode-of s) 3 ≡ true = value-at Mode (omega arith) .0 in
       rw (status, le-leb (mode-of s) 2 (omega (arith, ltb-true (mode-of s) 3 mode)))
 
   pub small-enough : length m ≤ 2 ^ 24

@@ -6,6 +6,7 @@ use mathlib.Core.Bool.{Bool, _&&_, not}
 use mathlib.Core.List.{List, [], _∷_}
 use lib.ListN.{length}
 use lib.Dec.{ltb, leb, eqb}
+use Rattle.codes.specs.Codes.{Running, Stopped, Halted, ResetStatus, LeastMemory, MostMemory, TopLevel, MostSteps, NoEvent, DataRead}
 use Rattle.bits.specs.Bits.{pick}
 use Rattle.bus.specs.Bus.{view-of, read-long}
 use Rattle.bank.specs.Bank.{long, pc-of, sr-of, mode-of}
@@ -21,13 +22,13 @@ use Rattle.machine.specs.declared.StepAnswer.{StepAnswer}
 use Rattle.machine.specs.declared.RunAnswer.{RunAnswer}
 use Rattle.machine.specs.declared.UndoAnswer.{UndoAnswer}
 
--- refusal 1 is given exactly when this does not hold: an even length from 1,024 to 16,777,216  [01 Calls, table]
+-- refusal 1 is given exactly when this does not hold: an even length, not too short and not too long  [01 Calls, table]
 abbrev pub memory-fits : List ℕ → Bool
-memory-fits m = eqb (length m % 2) 0 && leb 1024 (length m) && leb (length m) 16777216
+memory-fits m = eqb (length m % 2) 0 && leb LeastMemory (length m) && leb (length m) MostMemory
 
--- refusal 2 is given exactly when this does not hold: SR has only the bits of $A71F, and the mode is at most 2  [01 Calls, table]
+-- refusal 2 is given exactly when this does not hold: SR has only the bits of $A71F, and the mode is one of the three  [01 Calls, table]
 abbrev pub state-fits : List ℕ → Bool
-state-fits s = valid-status (sr-of s) && leb (mode-of s) 2
+state-fits s = valid-status (sr-of s) && leb (mode-of s) Halted
 
 -- ---- reset
 
@@ -35,11 +36,11 @@ state-fits s = valid-status (sr-of s) && leb (mode-of s) 2
 abbrev pub reset-slots : List ℕ → List ℕ
 reset-slots m =
     0 ∷ 0 ∷ 0 ∷ 0 ∷ 0 ∷ 0 ∷ 0 ∷ 0 ∷ 0 ∷ 0 ∷ 0 ∷ 0 ∷ 0 ∷ 0 ∷ 0 ∷ 0
-    ∷ long (read-long (view-of m) 0 17 (fresh 0 0) .value) ∷ long (read-long (view-of m) 4 17 (fresh 0 0) .value) ∷ 9984 ∷ 0 ∷ []
+    ∷ long (read-long (view-of m) 0 DataRead (fresh 0 0) .value) ∷ long (read-long (view-of m) 4 DataRead (fresh 0 0) .value) ∷ ResetStatus ∷ Running ∷ []
 
--- 2 in slot 19 and 0 in every other  [01 Calls]
+-- halted, and 0 in every other slot  [01 Calls]
 abbrev pub refused-slots : List ℕ
-refused-slots = 0 ∷ 0 ∷ 0 ∷ 0 ∷ 0 ∷ 0 ∷ 0 ∷ 0 ∷ 0 ∷ 0 ∷ 0 ∷ 0 ∷ 0 ∷ 0 ∷ 0 ∷ 0 ∷ 0 ∷ 0 ∷ 0 ∷ 2 ∷ []
+refused-slots = 0 ∷ 0 ∷ 0 ∷ 0 ∷ 0 ∷ 0 ∷ 0 ∷ 0 ∷ 0 ∷ 0 ∷ 0 ∷ 0 ∷ 0 ∷ 0 ∷ 0 ∷ 0 ∷ 0 ∷ 0 ∷ 0 ∷ Halted ∷ []
 
 abbrev pub reset-number : List ℕ → ℕ
 reset-number m = pick (memory-fits m) 0 1
@@ -61,10 +62,10 @@ unfoldable pub step-number : List ℕ → List ℕ → ℕ → List ℕ → ℕ 
 step-number s m level j mark =
     pick (not (memory-fits m)) 1
     (pick (not (state-fits s)) 2
-    (pick (ltb 7 level) 3
+    (pick (ltb TopLevel level) 3
     (pick (ltb (length j) mark) 4
     (pick (ltb (length j - mark) longest-record) 5
-    (pick (eqb (mode-of s) 2) 6 0)))))
+    (pick (eqb (mode-of s) Halted) 6 0)))))
 
 -- one step by the definition, and the record that before and after determine, at the mark  [01 One step] [01 The journal]
 unfoldable pub step-taken : List ℕ → List ℕ → ℕ → ℕ → List ℕ → ℕ → StepCall
@@ -76,7 +77,7 @@ step-taken s m level vector j mark =
 unfoldable pub step-call : List ℕ → List ℕ → ℕ → ℕ → List ℕ → ℕ → StepCall
 step-call s m level vector j mark =
     let n = step-number s m level j mark in
-    pick (eqb n 0) (step-taken s m level vector j mark) (record { s = s; m = m; j = j; a = record { number = n; event = 0; mark = mark } })
+    pick (eqb n 0) (step-taken s m level vector j mark) (record { s = s; m = m; j = j; a = record { number = n; event = NoEvent; mark = mark } })
 
 -- ---- run
 
@@ -91,7 +92,7 @@ unfoldable pub run-number : List ℕ → List ℕ → ℕ → List ℕ → ℕ �
 run-number s m budget j mark =
     pick (not (memory-fits m)) 1
     (pick (not (state-fits s)) 2
-    (pick (ltb 1000000 budget) 3
+    (pick (ltb MostSteps budget) 3
     (pick (ltb (length j) mark) 4 0)))
 
 -- a run ended by a reason, with n steps done  [01 Calls, Run]
@@ -104,8 +105,8 @@ running zero n stop s m j mark = ended 1 n s m j mark
 running (suc k) n stop s m j mark =
     let c = step-taken s m 0 0 j mark in
     let rest = running k (n + 1) stop (c .s) (c .m) (c .j) (c .a .mark) in
-    pick (eqb (mode-of s) 2) (ended 2 n s m j mark)
-    (pick (eqb (mode-of s) 1) (ended 3 n s m j mark)
+    pick (eqb (mode-of s) Halted) (ended 2 n s m j mark)
+    (pick (eqb (mode-of s) Stopped) (ended 3 n s m j mark)
     (pick (ltb (length j - mark) longest-record) (ended 4 n s m j mark)
     (pick (eqb (pc-of s) stop) (ended 5 n s m j mark) rest)))
 

@@ -6,6 +6,7 @@ use mathlib.Core.Path.{_≡_}
 use mathlib.Core.Bool.{false}
 use mathlib.Core.List.{List, [], _∷_}
 use lib.ListN.{length}
+use Rattle.codes.specs.Codes.{Stopped, Halted, LeastMemory, MostMemory, TopLevel, MostSteps}
 use Rattle.bank.specs.Bank.{pc-of, sr-of, mode-of}
 use Rattle.record.specs.Limits.{longest-record, valid-status}
 use Rattle.undo.specs.Undo.{none, well-formed}
@@ -29,13 +30,13 @@ NoneApplies (l ∷ ls) = (l .applies → ⊥) × NoneApplies ls
 -- memory length is odd, below 1,024 or above 16,777,216  [01 Calls, table]
 pub data BadMemory (m : List ℕ) : Type 0 where
   odd : length m % 2 ≡ 1 → BadMemory m
-  short : length m < 1024 → BadMemory m
-  long : 16777216 < length m → BadMemory m
+  short : length m < LeastMemory → BadMemory m
+  long : MostMemory < length m → BadMemory m
 
 -- SR has a bit outside $A71F, or mode is above 2  [01 Calls, table]
 pub data BadState (s : List ℕ) : Type 0 where
   stray-bit : valid-status (sr-of s) ≡ false → BadState s
-  no-mode : 2 < mode-of s → BadState s
+  no-mode : Halted < mode-of s → BadState s
 
 -- the lines that several calls have  [01 Calls, table]
 abbrev pub memory-line : List ℕ → Line
@@ -56,16 +57,16 @@ abbrev pub step-table : List ℕ → List ℕ → ℕ → List ℕ → ℕ → L
 step-table s m level j mark =
     memory-line m
     ∷ state-line s
-    ∷ record { number = 3; applies = 7 < level }
+    ∷ record { number = 3; applies = TopLevel < level }
     ∷ mark-line j mark
     ∷ record { number = 5; applies = length j - mark < longest-record }
-    ∷ record { number = 6; applies = mode-of s ≡ 2 }
+    ∷ record { number = 6; applies = mode-of s ≡ Halted }
     ∷ []
 
 -- run gives 1 to 4  [01 Calls, table]
 abbrev pub run-table : List ℕ → List ℕ → ℕ → List ℕ → ℕ → List Line
 run-table s m budget j mark =
-    memory-line m ∷ state-line s ∷ record { number = 3; applies = 1000000 < budget } ∷ mark-line j mark ∷ []
+    memory-line m ∷ state-line s ∷ record { number = 3; applies = MostSteps < budget } ∷ mark-line j mark ∷ []
 
 -- undo gives 1, 2, 4, 7 and 8  [01 Calls, table]
 abbrev pub undo-table : List ℕ → List ℕ → List ℕ → ℕ → List Line
@@ -81,8 +82,8 @@ undo-table s m j mark =
 abbrev pub reasons : ℕ → ℕ → ℕ → List ℕ → List ℕ → ℕ → List Line
 reasons budget stop n s j mark =
     record { number = 1; applies = n ≡ budget }
-    ∷ record { number = 2; applies = mode-of s ≡ 2 }
-    ∷ record { number = 3; applies = mode-of s ≡ 1 }
+    ∷ record { number = 2; applies = mode-of s ≡ Halted }
+    ∷ record { number = 3; applies = mode-of s ≡ Stopped }
     ∷ record { number = 4; applies = length j - mark < longest-record }
     ∷ record { number = 5; applies = pc-of s ≡ stop }
     ∷ []

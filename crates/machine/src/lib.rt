@@ -1,6 +1,6 @@
 // lib.rt - the calls of the machine: reset, step, run and undo, with their refusals. No call has a `requires`.
 // Means: specs/Calls.antt, specs/Promises.antt.  Laws: proofs/CallLaws.antt, proofs/LoopLaws.antt, and the theorems beside them.
-// Uses: bits, bus, record, touch, undo, bank, exception, step.  Source: [01 Calls and what they give back], [01 The journal].
+// Uses: codes, bits, bus, record, touch, undo, bank, exception, step.  Source: [01 Calls and what they give back], [01 The journal].
 ghost use mathlib.Core.Path.{_≡_};
 ghost use mathlib.Core.Bool.{true};
 ghost use Prim.Native.Nat.{ℕ, _+_, _≤_, _<_, _^_};
@@ -9,6 +9,7 @@ ghost use Rattle.record.specs.Limits.{slot-limit, byte-limit, longest-record};
 ghost use Rattle.machine.specs.Calls.{memory-fits, state-fits, reset-slots, step-number, step-taken, run-number, running, undo-number, undo-answer};
 ghost use Rattle.machine.specs.Loop.{GoesOn};
 ghost use Rattle.machine.specs.Promises.{ResetPromise, StepPromise, RunPromise, UndoPromise};
+use codes::SLOTS;
 use record::limits::BYTE_LIMIT;
 use record::limits::LONGEST_RECORD;
 use undo::Answer;
@@ -44,23 +45,23 @@ fn memory_fits(memory: &[u8]) -> bool
     ensures { λ r. ⌜ r ≡ memory-fits (now (memory .entry)) ⌝ }
 {
     let n = memory.len();
-    (n % 2 == 0) & (1024 <= n) & (n <= 16777216)
+    (n % 2 == 0) & (codes::LEAST_MEMORY <= n) & (n <= codes::MOST_MEMORY)
 }
 
-fn state_fits(slots: &[u32; 20]) -> bool
+fn state_fits(slots: &[u32; SLOTS]) -> bool
     ensures { λ r. ⌜ r ≡ state-fits (now (slots .entry)) ⌝ }
 {
-    let mode = slots[19];
-    let status = record::limits::valid_status(slots[18]);
-    status & (mode <= 2)
+    let mode = slots[codes::MODE];
+    let status = record::limits::valid_status(slots[codes::SR]);
+    status & (mode <= codes::HALTED)
 }
 
 // SSP from address 0, PC from 4, SR $2700.
-fn reset_slots(memory: &[u8]) -> [u32; 20]
+fn reset_slots(memory: &[u8]) -> [u32; SLOTS]
     ensures { λ r. ⌜ r ≡ reset-slots (now (memory .entry)) ⌝ }
 {
-    let ssp = bus::read_long(memory, 0, 17, exception::fresh(0, 0));
-    let pc = bus::read_long(memory, 4, 17, exception::fresh(0, 0));
+    let ssp = bus::read_long(memory, 0, codes::DATA_READ, exception::fresh(0, 0));
+    let pc = bus::read_long(memory, 4, codes::DATA_READ, exception::fresh(0, 0));
     [
         0,
         0,
@@ -80,13 +81,13 @@ fn reset_slots(memory: &[u8]) -> [u32; 20]
         0,
         ssp.value,
         pc.value,
-        9984,
-        0,
+        codes::RESET_STATUS,
+        codes::RUNNING,
     ]
 }
 
 // Reset. It does not write memory.
-pub fn reset(slots: &mut [u32; 20], memory: &[u8]) -> u32
+pub fn reset(slots: &mut [u32; SLOTS], memory: &[u8]) -> u32
     ensures { λ n. ⌜ ResetPromise (now (memory .entry)) (now (slots .exit)) n ⌝ }
 {
     let fits = memory_fits(memory);
@@ -95,13 +96,13 @@ pub fn reset(slots: &mut [u32; 20], memory: &[u8]) -> u32
         *slots = n;
         return 0;
     }
-    let n = [0, 0, 0, 0, 0, 0, 0, 0, 0, 0, 0, 0, 0, 0, 0, 0, 0, 0, 0, 2];
+    let n = [0, 0, 0, 0, 0, 0, 0, 0, 0, 0, 0, 0, 0, 0, 0, 0, 0, 0, 0, codes::HALTED];
     *slots = n;
     1
 }
 
 // The number of a step's refusal, or 0.
-fn step_number(slots: &[u32; 20], memory: &[u8], level: u32, journal: &[u8], mark: usize) -> u32
+fn step_number(slots: &[u32; SLOTS], memory: &[u8], level: u32, journal: &[u8], mark: usize) -> u32
     ensures { λ r. ⌜ r ≡ step-number (now (slots .entry)) (now (memory .entry)) level (now (journal .entry)) mark ⌝ }
 {
     let fits = memory_fits(memory);
@@ -112,7 +113,7 @@ fn step_number(slots: &[u32; 20], memory: &[u8], level: u32, journal: &[u8], mar
     if !valid {
         return 2;
     }
-    let high = 7 < level;
+    let high = codes::TOP_LEVEL < level;
     if high {
         return 3;
     }
@@ -124,7 +125,7 @@ fn step_number(slots: &[u32; 20], memory: &[u8], level: u32, journal: &[u8], mar
     if short {
         return 5;
     }
-    let halted = slots[19] == 2;
+    let halted = slots[codes::MODE] == codes::HALTED;
     if halted {
         return 6;
     }
@@ -145,7 +146,7 @@ fn words_there(s: &[u32]) -> usize
     s.len()
 }
 
-fn twenty(s: &[u32; 20]) -> usize
+fn twenty(s: &[u32; SLOTS]) -> usize
     ensures { λ _. ⌜ length (now (s .entry)) ≡ slot-limit ⌝ }
     ensures { λ _. ⌜ ((k : ℕ) → getD (now (s .entry)) k 0 < 2 ^ 32) ⌝ }
 {
@@ -168,7 +169,7 @@ fn bytes_there(m: &[u8]) -> usize
 
 // One step and its record at the mark. The log is lent, so that a run makes it once.
 fn step_taken(
-    slots: &mut [u32; 20],
+    slots: &mut [u32; SLOTS],
     memory: &mut [u8],
     level: u32,
     vector: u32,
@@ -196,7 +197,7 @@ fn step_taken(
 }
 
 pub fn step(
-    slots: &mut [u32; 20],
+    slots: &mut [u32; SLOTS],
     memory: &mut [u8],
     level: u32,
     vector: u8,
@@ -221,13 +222,13 @@ pub fn step(
     }
     StepAnswer {
         number,
-        event: 0,
+        event: codes::NO_EVENT,
         mark,
     }
 }
 
 // The number of a run's refusal, or 0.
-fn run_number(slots: &[u32; 20], memory: &[u8], budget: u32, journal: &[u8], mark: usize) -> u32
+fn run_number(slots: &[u32; SLOTS], memory: &[u8], budget: u32, journal: &[u8], mark: usize) -> u32
     ensures { λ r. ⌜ r ≡ run-number (now (slots .entry)) (now (memory .entry)) budget (now (journal .entry)) mark ⌝ }
 {
     let fits = memory_fits(memory);
@@ -238,7 +239,7 @@ fn run_number(slots: &[u32; 20], memory: &[u8], budget: u32, journal: &[u8], mar
     if !valid {
         return 2;
     }
-    let high = 1000000 < budget;
+    let high = codes::MOST_STEPS < budget;
     if high {
         return 3;
     }
@@ -251,7 +252,7 @@ fn run_number(slots: &[u32; 20], memory: &[u8], budget: u32, journal: &[u8], mar
 
 // The steps of a run: it ends at the first reason that holds.
 fn running(
-    slots: &mut [u32; 20],
+    slots: &mut [u32; SLOTS],
     memory: &mut [u8],
     budget: u32,
     stop: u32,
@@ -272,11 +273,11 @@ fn running(
         if spent {
             break 1;
         }
-        let halted = slots[19] == 2;
+        let halted = slots[codes::MODE] == codes::HALTED;
         if halted {
             break 2;
         }
-        let stopped = slots[19] == 1;
+        let stopped = slots[codes::MODE] == codes::STOPPED;
         if stopped {
             break 3;
         }
@@ -284,7 +285,7 @@ fn running(
         if short {
             break 4;
         }
-        let there = slots[17] == stop;
+        let there = slots[codes::PC] == stop;
         if there {
             break 5;
         }
@@ -301,7 +302,7 @@ fn running(
 }
 
 pub fn run(
-    slots: &mut [u32; 20],
+    slots: &mut [u32; SLOTS],
     memory: &mut [u8],
     budget: u32,
     stop: u32,
@@ -325,7 +326,7 @@ pub fn run(
 }
 
 // The number of an undo's refusal, or 0: all but 8.
-fn undo_number(slots: &[u32; 20], memory: &[u8], journal: &[u8], mark: usize) -> u32
+fn undo_number(slots: &[u32; SLOTS], memory: &[u8], journal: &[u8], mark: usize) -> u32
     ensures { λ r. ⌜ r ≡ undo-number (now (slots .entry)) (now (memory .entry)) (now (journal .entry)) mark ⌝ }
 {
     let fits = memory_fits(memory);
@@ -359,7 +360,7 @@ fn undo_answer(mark: usize, a: Answer) -> UndoAnswer
     }
 }
 
-pub fn undo(slots: &mut [u32; 20], memory: &mut [u8], journal: &[u8], mark: usize) -> UndoAnswer
+pub fn undo(slots: &mut [u32; SLOTS], memory: &mut [u8], journal: &[u8], mark: usize) -> UndoAnswer
     ensures { λ a. ⌜ UndoPromise (now (slots .entry)) (now (memory .entry)) (now (journal .entry)) mark (now (slots .exit)) (now (memory .exit)) a ⌝ }
 {
     let number = undo_number(slots, memory, journal, mark);

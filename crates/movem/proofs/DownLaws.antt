@@ -267,7 +267,7 @@ block-put-is-down m r p e =
     let h = stored r (p .at) (p .value / 65536) in
     ap (λ (w : Way). iter (put-one r p w) 16 (walk m (first-spot w (p .flow))) .held) (sym (up-is r p e))
     ∙ walked (part-of r p) u (p .flow) 16 m (first-spot u (p .flow))
-    ∙ ap (λ (g : ℕ → ℕ). puts (u .z) (u .step) (parts g (bits 16 (u .list)) 0) (u .start) m) (fun-ext (part-is r p e))
+    ∙ ap (λ (g : ℕ → ℕ). puts (u .size) (u .step) (parts g (bits 16 (u .list)) 0) (u .start) m) (fun-ext (part-is r p e))
     ∙ over-mirror (p .write % 2) (omega arith) h (p .value) (p .at) m
     ∙ sym (walked (λ j. h (15 - j)) d (p .flow) 16 m (first-spot d (p .flow)))
     ∙ ap (λ (w : Way). iter (down-one r p w) 16 (walk m (first-spot w (p .flow))) .held) (down-is r p e)

@@ -8,6 +8,8 @@ use mathlib.Core.List.{List, [], _∷_}
 use lib.ListN.{getD}
 use lib.Dec.{leb, eqb}
 use lib.Count.{onesIn}
+use Rattle.codes.specs.Codes.{Byte, A0, NoRegister, BlockUp, BlockDown, EveryOther, Upward, Downward, Predecrement}
+use Rattle.codes.specs.Fields.{ea-mode, ea-register, long-bit, long-or-word}
 use Rattle.bits.specs.Bits.{pick, iter, plus, minus, sign-extended}
 use Rattle.bus.specs.declared.Flow.{Flow}
 use Rattle.bus.specs.Bus.{View, read-sized, next-word, room, put-sized}
@@ -48,35 +50,35 @@ load-list r v k w f = iter (load-one v k w) 16 (record { held = r; spot = first-
 -- MOVEM to registers: the list's word, then the mode's words; (An)+ leaves An at the final address even if An was listed  [003 B MOVEM] [01 Operands]
 unfoldable pub movem-to-registers : List ℕ → View → ℕ → Flow → Done
 movem-to-registers r v op f =
-    let z = 1 + op / 64 % 2 in
+    let z = long-or-word op in
     let l = next-word v f in
-    let q = locate r v (op / 8 % 8) (op % 8) z (l .flow) in
+    let q = locate r v (ea-mode op) (ea-register op) z (l .flow) in
     let t = load-list r v (q .access) (record { size = z; list = l .value; start = q .at; step = 2 * z }) (q .flow) in
     record { r = put (t .held) (q .reg) (t .spot .at); p = nothing (t .spot .flow) }
 
 -- MOVEM to -(An): An falls by the size for each one of the list, and its first value goes into the plan  [003 B MOVEM] [01 Operands]
 unfoldable pub movem-down : List ℕ → ℕ → ℕ → Flow → Done
 movem-down r list op f =
-    let i = 8 + op % 8 in
+    let i = A0 + ea-register op in
     let a = get r i in
-    record { r = put r i (minus a (onesIn 16 list * 2 * (1 + op / 64 % 2))); p = writing (6 + op / 64 % 2) a (list % 65536 + 65536 * i) f }
+    record { r = put r i (minus a (onesIn 16 list * 2 * (long-or-word op))); p = writing (BlockDown + long-bit op) a (list % 65536 + 65536 * i) f }
 
--- MOVEM to memory: the list's word, then the mode's words; a write of code 4 or 5 upward, 6 or 7 downward  [003 B MOVEM]
+-- MOVEM to memory: the list's word, then the mode's words  [003 B MOVEM]
 unfoldable pub movem-to-memory : List ℕ → View → ℕ → Flow → Done
 movem-to-memory r v op f =
     let l = next-word v f in
-    let q = locate r v (op / 8 % 8) (op % 8) (1 + op / 64 % 2) (l .flow) in
-    pick (eqb (op / 8 % 8) 4)
+    let q = locate r v (ea-mode op) (ea-register op) (long-or-word op) (l .flow) in
+    pick (eqb (ea-mode op) Predecrement)
     (movem-down r (l .value) op (l .flow))
-    (record { r = r; p = writing (4 + op / 64 % 2) (q .at) (l .value + 65536 * 17) (q .flow) })
+    (record { r = r; p = writing (BlockUp + long-bit op) (q .at) (l .value + 65536 * NoRegister) (q .flow) })
 
--- a plan's block as its room is asked, by its code: 4, 5 upward, 6, 7 downward from A7, else every other byte  [003 B MOVEM] [003 B MOVEP]
+-- a plan's block as its room is asked: upward, downward from A7, else every other byte  [003 B MOVEM] [003 B MOVEP]
 unfoldable pub room-way : Plan → Way
 room-way p =
     let z = 1 + p .write % 2 in
-    pick (eqb (p .write / 2) 2) (record { size = z; list = p .value % 65536; start = p .at; step = 2 * z })
-    (pick (eqb (p .write / 2) 3) (record { size = z; list = p .value % 65536; start = minus (p .at) (2 * z); step = minus 0 (2 * z) })
-    (record { size = 0; list = 3 + p .write % 2 * 12; start = p .at; step = 2 }))
+    pick (eqb (p .write / 2) Upward) (record { size = z; list = p .value % 65536; start = p .at; step = 2 * z })
+    (pick (eqb (p .write / 2) Downward) (record { size = z; list = p .value % 65536; start = minus (p .at) (2 * z); step = minus 0 (2 * z) })
+    (record { size = Byte; list = 3 + p .write % 2 * 12; start = p .at; step = 2 }))
 
 -- one part of a block, if the list has it: is there room  [01 step 6]
 unfoldable pub room-one : View → Way → Spot → Spot
@@ -102,7 +104,7 @@ mirrored x = mirrored-byte x * 256 + mirrored-byte (x / 256)
 unfoldable pub put-way : Plan → Way
 put-way p =
     let z = 1 + p .write % 2 in
-    pick (eqb (p .write / 2) 3)
+    pick (eqb (p .write / 2) Downward)
     (record { size = z; list = mirrored (p .value); start = minus (p .at) (onesIn 16 (p .value) * 2 * z); step = 2 * z })
     (room-way p)
 
@@ -116,7 +118,7 @@ byte-of v j = getD (v / 16777216 ∷ v / 65536 ∷ v / 256 ∷ []) j v
 
 -- what a block has at place k of its list: MOVEM's register k, MOVEP's byte k, of which a word has only the last two  [003 B MOVEM] [003 B MOVEP]
 unfoldable pub part-of : List ℕ → Plan → ℕ → ℕ
-part-of r p k = pick (leb 8 (p .write)) (byte-of (p .value) (k % 16 + 2 - p .write % 2 * 2)) (stored r (p .at) (p .value / 65536) k)
+part-of r p k = pick (leb EveryOther (p .write)) (byte-of (p .value) (k % 16 + 2 - p .write % 2 * 2)) (stored r (p .at) (p .value / 65536) k)
 
 -- memory after one part of a block, if the list has it  [003 B MOVEM] [003 B MOVEP]
 unfoldable pub put-part : List ℕ → Plan → Way → Spot → List ℕ → List ℕ

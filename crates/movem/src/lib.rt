@@ -1,6 +1,6 @@
 // lib.rt - MOVEM: lists of registers walked to load them, to ask for room and to store them; MOVEP's store is such a walk over bytes.
 // Means: specs/Movem.antt.  Laws: proofs/MovemLaws.antt, proofs/BlockLaws.antt, proofs/DownLaws.antt.
-// Uses: bits, bus, operand, plan, store, touch.  Source: [003 B MOVEM], [003 B MOVEP], [01 step 6], [01 Operands].
+// Uses: codes, bits, bus, operand, plan, store, touch.  Source: [003 B MOVEM], [003 B MOVEP], [01 step 6], [01 Operands].
 ghost use mathlib.Core.Path.{_≡_};
 ghost use Prim.Native.Nat.{ℕ, _+_, _*_, _%_, _/_, _<_, _≤_};
 ghost use lib.ListN.{length};
@@ -9,6 +9,7 @@ ghost use Rattle.bus.specs.Bus.{view-of};
 ghost use Rattle.touch.specs.Touch.{LogOk, Noted};
 ghost use Rattle.movem.specs.Movem.{first-spot, next-spot, load-one, load-list, movem-to-registers, movem-down, movem-to-memory};
 ghost use Rattle.movem.specs.Movem.{room-way, room-one, room-list, block-room, mirrored-byte, mirrored, put-way, stored, byte-of, part-of, put-part, block-put};
+use codes::SLOTS;
 use bus::Flow;
 use plan::Plan;
 
@@ -62,7 +63,7 @@ fn next_spot(w: Way, d: Spot, f: Flow) -> Spot
 }
 
 // Register k is loaded if the list has it; a word is carried on to 32 bits.
-fn load_one(r: &mut [u32; 20], mem: &[u8], k: u32, w: Way, d: Spot) -> Spot
+fn load_one(r: &mut [u32; SLOTS], mem: &[u8], k: u32, w: Way, d: Spot) -> Spot
     ensures { λ e. ⌜ record { held = now (r .exit); spot = e } ≡ load-one (view-of (now (mem .entry))) k w (record { held = now (r .entry); spot = d }) ⌝ }
 {
     let f = d.flow;
@@ -76,7 +77,7 @@ fn load_one(r: &mut [u32; 20], mem: &[u8], k: u32, w: Way, d: Spot) -> Spot
     next_spot(w, d, f)
 }
 
-fn load_list(r: &mut [u32; 20], mem: &[u8], k: u32, w: Way, f: Flow) -> Spot
+fn load_list(r: &mut [u32; SLOTS], mem: &[u8], k: u32, w: Way, f: Flow) -> Spot
     ensures { λ e. ⌜ record { held = now (r .exit); spot = e } ≡ load-list (now (r .entry)) (view-of (now (mem .entry))) k w f ⌝ }
 {
     let mut d = first_spot(w, f);
@@ -89,7 +90,7 @@ fn load_list(r: &mut [u32; 20], mem: &[u8], k: u32, w: Way, f: Flow) -> Spot
 }
 
 // The address is formed once, before any load. (An)+, the only mode here that steps, leaves An at the final address.
-pub fn movem_to_registers(r: &mut [u32; 20], mem: &[u8], op: u32, f: Flow) -> Plan
+pub fn movem_to_registers(r: &mut [u32; SLOTS], mem: &[u8], op: u32, f: Flow) -> Plan
     ensures { λ p. ⌜ record { r = now (r .exit); p = p } ≡ movem-to-registers (now (r .entry)) (view-of (now (mem .entry))) op f ⌝ }
 {
     let z = 1 + op / 64 % 2;
@@ -125,28 +126,28 @@ fn ones_of(list: u32) -> u32
 }
 
 // MOVEM to -(An): the plan has An's first value, the bank its last.
-fn movem_down(r: &mut [u32; 20], list: u32, op: u32, f: Flow) -> Plan
+fn movem_down(r: &mut [u32; SLOTS], list: u32, op: u32, f: Flow) -> Plan
     ensures { λ p. ⌜ record { r = now (r .exit); p = p } ≡ movem-down (now (r .entry)) list op f ⌝ }
 {
-    let i = 8 + op % 8;
+    let i = codes::A0 + op % 8;
     let a = operand::get(r, i);
     let n = ones_of(list);
     operand::put(r, i, bits::minus(a, n * 2 * (1 + op / 64 % 2)));
-    plan::writing(6 + op / 64 % 2, a, list % 65536 + 65536 * i, f)
+    plan::writing(codes::BLOCK_DOWN + op / 64 % 2, a, list % 65536 + 65536 * i, f)
 }
 
-pub fn movem_to_memory(r: &mut [u32; 20], mem: &[u8], op: u32, f: Flow) -> Plan
+pub fn movem_to_memory(r: &mut [u32; SLOTS], mem: &[u8], op: u32, f: Flow) -> Plan
     ensures { λ p. ⌜ record { r = now (r .exit); p = p } ≡ movem-to-memory (now (r .entry)) (view-of (now (mem .entry))) op f ⌝ }
 {
     let l = bus::next_word(mem, f);
     let g = l.flow;
-    let down = op / 8 % 8 == 4;
+    let down = op / 8 % 8 == codes::PREDECREMENT;
     if down {
         return movem_down(r, l.value, op, g);
     }
     let q = operand::locate(r, mem, op / 8 % 8, op % 8, 1 + op / 64 % 2, g);
     let h = q.flow;
-    plan::writing(4 + op / 64 % 2, q.at, l.value + 65536 * 17, h)
+    plan::writing(codes::BLOCK_UP + op / 64 % 2, q.at, l.value + 65536 * codes::NO_REGISTER, h)
 }
 
 // A plan's block as its room is asked: upward, downward from A7, every other byte.
@@ -155,8 +156,8 @@ fn room_way(p: Plan) -> Way
 {
     let z = 1 + p.write % 2;
     let list = p.value % 65536;
-    let up = p.write / 2 == 2;
-    let down = p.write / 2 == 3;
+    let up = p.write / 2 == codes::UPWARD;
+    let down = p.write / 2 == codes::DOWNWARD;
     if up {
         return Way {
             size: z,
@@ -174,7 +175,7 @@ fn room_way(p: Plan) -> Way
         };
     }
     Way {
-        size: 0,
+        size: codes::BYTE,
         list: 3 + p.write % 2 * 12,
         start: p.at,
         step: 2,
@@ -239,7 +240,7 @@ fn put_way(p: Plan) -> Way
     ensures { λ w. ⌜ w ≡ put-way p ⌝ }
 {
     let z = 1 + p.write % 2;
-    let down = p.write / 2 == 3;
+    let down = p.write / 2 == codes::DOWNWARD;
     if down {
         let n = ones_of(p.value);
         return Way {
@@ -253,7 +254,7 @@ fn put_way(p: Plan) -> Way
 }
 
 // Register i as MOVEM stores it: the one that -(An) lowered, `own`, by its first value.
-fn stored(r: &[u32; 20], first: u32, own: u32, i: u32) -> u32
+fn stored(r: &[u32; SLOTS], first: u32, own: u32, i: u32) -> u32
     ensures { λ v. ⌜ v ≡ stored (now (r .entry)) first own i ⌝ }
 {
     let same = i == own;
@@ -268,7 +269,7 @@ fn byte_of(v: u32, j: u32) -> u32
     ensures { λ b. ⌜ b ≡ byte-of v j ⌝ }
 {
     match j {
-        0 => v / 16777216,
+        0 => v / 0x100_0000,
         1 => v / 65536,
         2 => v / 256,
         _ => v,
@@ -276,10 +277,10 @@ fn byte_of(v: u32, j: u32) -> u32
 }
 
 // What a block has at place k of its list.
-fn part_of(r: &[u32; 20], p: Plan, k: u32) -> u32
+fn part_of(r: &[u32; SLOTS], p: Plan, k: u32) -> u32
     ensures { λ v. ⌜ v ≡ part-of (now (r .entry)) p k ⌝ }
 {
-    let bytes = 8 <= p.write;
+    let bytes = codes::EVERY_OTHER <= p.write;
     if bytes {
         return byte_of(p.value, k % 16 + 2 - p.write % 2 * 2);
     }
@@ -291,7 +292,7 @@ fn store_part(
     memory: &mut [u8],
     log: &mut [u64],
     n: usize,
-    r: &[u32; 20],
+    r: &[u32; SLOTS],
     p: Plan,
     w: Way,
     d: Spot,
@@ -309,7 +310,7 @@ fn store_part(
 }
 
 // The writes of a block, noted; how many entries the log then has.
-pub fn block_store(memory: &mut [u8], log: &mut [u64], n: usize, r: &[u32; 20], p: Plan) -> usize
+pub fn block_store(memory: &mut [u8], log: &mut [u64], n: usize, r: &[u32; SLOTS], p: Plan) -> usize
     requires { ⌜ LogOk (now memory) (now log) n × (n + 64 ≤ length (now log)) ⌝ }
     ensures memory { λ _. ⌜ now (memory .exit) ≡ block-put (now (memory .entry)) (now (r .entry)) p ⌝ }
     ensures noted { λ m. ⌜ Noted (now (memory .entry)) (now (log .entry)) n 64 (now (memory .exit)) (now (log .exit)) m ⌝ }

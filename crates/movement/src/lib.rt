@@ -1,6 +1,6 @@
 // lib.rt - the instructions that move data: MOVE, MOVEA, MOVEQ, LEA, PEA, EXG, SWAP, LINK, UNLK, MOVEP. MOVEM is crate movem.
 // Means: specs/Movement.antt.  Laws: proofs/MovementLaws.antt.
-// Uses: bits, bus, operand, flags, alu, plan.  Source: [003 3.2], [003 B], [01 step 6], [01 Operands].
+// Uses: codes, bits, bus, operand, flags, alu, plan.  Source: [003 3.2], [003 B], [01 step 6], [01 Operands].
 ghost use mathlib.Core.Path.{_≡_};
 ghost use Prim.Native.Nat.{ℕ, _+_, _*_, _%_, _/_, _<_, _≤_};
 ghost use Rattle.bits.specs.Bits.{minus};
@@ -8,6 +8,7 @@ ghost use Rattle.bus.specs.Bus.{view-of};
 ghost use Rattle.operand.specs.Operands.{Modify, get, put};
 ghost use Rattle.plan.specs.Plans.{Done};
 ghost use Rattle.movement.specs.Movement.{move-size, move-operands, move-data, move-address, move-quick, load-address, push-address, exchange, exchange-data, exchange-address, exchange-both, swap, link, unlink, every-other-word, every-other, movep-to-register, movep-to-memory};
+use codes::SLOTS;
 use bus::Fetched;
 use bus::Flow;
 use operand::Both;
@@ -21,18 +22,18 @@ fn move_size(op: u32) -> u32
     let byte = op / 4096 == 1;
     let word = op / 4096 == 3;
     if byte {
-        return 0;
+        return codes::BYTE;
     }
     if word {
-        return 1;
+        return codes::WORD;
     }
-    2
+    codes::LONG
 }
 
 // The source's value, and the destination's place with its register stepped. All extension words come before the source is read, and
 // the source's step before the destination's address. The source is read before the destination's step: MOVE.L A0,-(A0) stores the
 // first value.
-fn move_operands(r: &mut [u32; 20], mem: &[u8], op: u32, z: u32, f: Flow) -> Both
+fn move_operands(r: &mut [u32; SLOTS], mem: &[u8], op: u32, z: u32, f: Flow) -> Both
     ensures { λ b. ⌜ record { r = now (r .exit); b = b } ≡ move-operands (now (r .entry)) (view-of (now (mem .entry))) op z f ⌝ }
 {
     let s = operand::target(r, mem, op / 8 % 8, op % 8, z, f);
@@ -53,7 +54,7 @@ fn move_operands(r: &mut [u32; 20], mem: &[u8], op: u32, z: u32, f: Flow) -> Bot
     Both { value: w.value, q: d }
 }
 
-pub fn move_data(r: &mut [u32; 20], mem: &[u8], op: u32, f: Flow) -> Plan
+pub fn move_data(r: &mut [u32; SLOTS], mem: &[u8], op: u32, f: Flow) -> Plan
     ensures { λ p. ⌜ record { r = now (r .exit); p = p } ≡ move-data (now (r .entry)) (view-of (now (mem .entry))) op f ⌝ }
 {
     let z = move_size(op);
@@ -62,44 +63,44 @@ pub fn move_data(r: &mut [u32; 20], mem: &[u8], op: u32, f: Flow) -> Plan
     plan::finish(r, q, z, alu::moved(b.value, f.sr, z))
 }
 
-pub fn move_address(r: &mut [u32; 20], mem: &[u8], op: u32, f: Flow) -> Plan
+pub fn move_address(r: &mut [u32; SLOTS], mem: &[u8], op: u32, f: Flow) -> Plan
     ensures { λ p. ⌜ record { r = now (r .exit); p = p } ≡ move-address (now (r .entry)) (view-of (now (mem .entry))) op f ⌝ }
 {
     let z = move_size(op);
     let w = operand::source(r, mem, op / 8 % 8, op % 8, z, f);
     let g = w.flow;
-    operand::put(r, 8 + op / 512 % 8, bits::sign_extended(w.value, z));
+    operand::put(r, codes::A0 + op / 512 % 8, bits::sign_extended(w.value, z));
     plan::nothing(g)
 }
 
-pub fn move_quick(r: &mut [u32; 20], mem: &[u8], op: u32, f: Flow) -> Plan
+pub fn move_quick(r: &mut [u32; SLOTS], mem: &[u8], op: u32, f: Flow) -> Plan
     ensures { λ p. ⌜ record { r = now (r .exit); p = p } ≡ move-quick (now (r .entry)) (view-of (now (mem .entry))) op f ⌝ }
 {
-    let a = alu::moved(bits::sign_byte(op), f.sr, 2);
+    let a = alu::moved(bits::sign_byte(op), f.sr, codes::LONG);
     operand::put(r, op / 512 % 8, a.value);
     plan::nothing(plan::flagged(f, a.ccr))
 }
 
-pub fn load_address(r: &mut [u32; 20], mem: &[u8], op: u32, f: Flow) -> Plan
+pub fn load_address(r: &mut [u32; SLOTS], mem: &[u8], op: u32, f: Flow) -> Plan
     ensures { λ p. ⌜ record { r = now (r .exit); p = p } ≡ load-address (now (r .entry)) (view-of (now (mem .entry))) op f ⌝ }
 {
-    let q = operand::locate(r, mem, op / 8 % 8, op % 8, 2, f);
+    let q = operand::locate(r, mem, op / 8 % 8, op % 8, codes::LONG, f);
     let g = q.flow;
-    operand::put(r, 8 + op / 512 % 8, q.at);
+    operand::put(r, codes::A0 + op / 512 % 8, q.at);
     plan::nothing(g)
 }
 
 // The address is formed before A7 falls.
-pub fn push_address(r: &mut [u32; 20], mem: &[u8], op: u32, f: Flow) -> Plan
+pub fn push_address(r: &mut [u32; SLOTS], mem: &[u8], op: u32, f: Flow) -> Plan
     ensures { λ p. ⌜ record { r = now (r .exit); p = p } ≡ push-address (now (r .entry)) (view-of (now (mem .entry))) op f ⌝ }
 {
-    let q = operand::locate(r, mem, op / 8 % 8, op % 8, 2, f);
+    let q = operand::locate(r, mem, op / 8 % 8, op % 8, codes::LONG, f);
     let g = q.flow;
     plan::push(r, q.at, g)
 }
 
 // EXG of registers i and j.
-fn exchange(r: &mut [u32; 20], i: u32, j: u32, f: Flow) -> Plan
+fn exchange(r: &mut [u32; SLOTS], i: u32, j: u32, f: Flow) -> Plan
     ensures { λ p. ⌜ record { r = now (r .exit); p = p } ≡ exchange (now (r .entry)) i j f ⌝ }
 {
     let x = operand::get(r, i);
@@ -109,25 +110,25 @@ fn exchange(r: &mut [u32; 20], i: u32, j: u32, f: Flow) -> Plan
     plan::nothing(f)
 }
 
-pub fn exchange_data(r: &mut [u32; 20], mem: &[u8], op: u32, f: Flow) -> Plan
+pub fn exchange_data(r: &mut [u32; SLOTS], mem: &[u8], op: u32, f: Flow) -> Plan
     ensures { λ p. ⌜ record { r = now (r .exit); p = p } ≡ exchange-data (now (r .entry)) (view-of (now (mem .entry))) op f ⌝ }
 {
     exchange(r, op / 512 % 8, op % 8, f)
 }
 
-pub fn exchange_address(r: &mut [u32; 20], mem: &[u8], op: u32, f: Flow) -> Plan
+pub fn exchange_address(r: &mut [u32; SLOTS], mem: &[u8], op: u32, f: Flow) -> Plan
     ensures { λ p. ⌜ record { r = now (r .exit); p = p } ≡ exchange-address (now (r .entry)) (view-of (now (mem .entry))) op f ⌝ }
 {
-    exchange(r, 8 + op / 512 % 8, 8 + op % 8, f)
+    exchange(r, codes::A0 + op / 512 % 8, codes::A0 + op % 8, f)
 }
 
-pub fn exchange_both(r: &mut [u32; 20], mem: &[u8], op: u32, f: Flow) -> Plan
+pub fn exchange_both(r: &mut [u32; SLOTS], mem: &[u8], op: u32, f: Flow) -> Plan
     ensures { λ p. ⌜ record { r = now (r .exit); p = p } ≡ exchange-both (now (r .entry)) (view-of (now (mem .entry))) op f ⌝ }
 {
-    exchange(r, op / 512 % 8, 8 + op % 8, f)
+    exchange(r, op / 512 % 8, codes::A0 + op % 8, f)
 }
 
-pub fn swap(r: &mut [u32; 20], mem: &[u8], op: u32, f: Flow) -> Plan
+pub fn swap(r: &mut [u32; SLOTS], mem: &[u8], op: u32, f: Flow) -> Plan
     ensures { λ p. ⌜ record { r = now (r .exit); p = p } ≡ swap (now (r .entry)) (view-of (now (mem .entry))) op f ⌝ }
 {
     let a = alu::swapped(operand::get(r, op % 8), f.sr);
@@ -136,37 +137,37 @@ pub fn swap(r: &mut [u32; 20], mem: &[u8], op: u32, f: Flow) -> Plan
 }
 
 // A7 falls by 4, and is answered.
-fn lowered(r: &mut [u32; 20]) -> u32
+fn lowered(r: &mut [u32; SLOTS]) -> u32
     ensures { λ a. ⌜ a ≡ minus (get (now (r .entry)) 15) 4 ⌝ }
     ensures { λ a. ⌜ now (r .exit) ≡ put (now (r .entry)) 15 a ⌝ }
 {
-    let a = bits::minus(operand::get(r, 15), 4);
-    operand::put(r, 15, a);
+    let a = bits::minus(operand::get(r, codes::A7), 4);
+    operand::put(r, codes::A7, a);
     a
 }
 
 // What is stored is An after A7 fell: LINK A7 stores A7 already lowered.
-pub fn link(r: &mut [u32; 20], mem: &[u8], op: u32, f: Flow) -> Plan
+pub fn link(r: &mut [u32; SLOTS], mem: &[u8], op: u32, f: Flow) -> Plan
     ensures { λ p. ⌜ record { r = now (r .exit); p = p } ≡ link (now (r .entry)) (view-of (now (mem .entry))) op f ⌝ }
 {
     let w = bus::next_word(mem, f);
     let g = w.flow;
     let a = lowered(r);
-    let v = operand::get(r, 8 + op % 8);
-    operand::put(r, 8 + op % 8, a);
-    operand::put(r, 15, std::num::wrapping_add_u32(a, bits::sign_word(w.value)));
-    plan::writing(2, a, v, g)
+    let v = operand::get(r, codes::A0 + op % 8);
+    operand::put(r, codes::A0 + op % 8, a);
+    operand::put(r, codes::A7, std::num::wrapping_add_u32(a, bits::sign_word(w.value)));
+    plan::writing(codes::LONG, a, v, g)
 }
 
 // A7 is put before An: UNLK A7 leaves the long that was read.
-pub fn unlink(r: &mut [u32; 20], mem: &[u8], op: u32, f: Flow) -> Plan
+pub fn unlink(r: &mut [u32; SLOTS], mem: &[u8], op: u32, f: Flow) -> Plan
     ensures { λ p. ⌜ record { r = now (r .exit); p = p } ≡ unlink (now (r .entry)) (view-of (now (mem .entry))) op f ⌝ }
 {
-    let a = operand::get(r, 8 + op % 8);
-    let w = bus::read_long(mem, a, 17, f);
+    let a = operand::get(r, codes::A0 + op % 8);
+    let w = bus::read_long(mem, a, codes::DATA_READ, f);
     let g = w.flow;
-    operand::put(r, 15, std::num::wrapping_add_u32(a, 4));
-    operand::put(r, 8 + op % 8, w.value);
+    operand::put(r, codes::A7, std::num::wrapping_add_u32(a, 4));
+    operand::put(r, codes::A0 + op % 8, w.value);
     plan::nothing(g)
 }
 
@@ -175,9 +176,9 @@ fn every_other_word(mem: &[u8], a: u32, f: Flow) -> Fetched
     ensures { λ w. ⌜ w ≡ every-other-word (view-of (now (mem .entry))) a f ⌝ }
     ensures { λ w. ⌜ w .value < 65536 ⌝ }
 {
-    let h = bus::read_byte(mem, a, 17, f);
+    let h = bus::read_byte(mem, a, codes::DATA_READ, f);
     let hf = h.flow;
-    let l = bus::read_byte(mem, std::num::wrapping_add_u32(a, 2), 17, hf);
+    let l = bus::read_byte(mem, std::num::wrapping_add_u32(a, 2), codes::DATA_READ, hf);
     let lf = l.flow;
     Fetched {
         value: h.value * 256 + l.value,
@@ -191,7 +192,7 @@ fn every_other(mem: &[u8], a: u32, z: u32, f: Flow) -> Fetched
 {
     let h = every_other_word(mem, a, f);
     let hf = h.flow;
-    let long = z == 2;
+    let long = z == codes::LONG;
     if long {
         let l = every_other_word(mem, std::num::wrapping_add_u32(a, 4), hf);
         let lf = l.flow;
@@ -203,11 +204,11 @@ fn every_other(mem: &[u8], a: u32, z: u32, f: Flow) -> Fetched
     h
 }
 
-pub fn movep_to_register(r: &mut [u32; 20], mem: &[u8], op: u32, f: Flow) -> Plan
+pub fn movep_to_register(r: &mut [u32; SLOTS], mem: &[u8], op: u32, f: Flow) -> Plan
     ensures { λ p. ⌜ record { r = now (r .exit); p = p } ≡ movep-to-register (now (r .entry)) (view-of (now (mem .entry))) op f ⌝ }
 {
     let z = 1 + op / 64 % 2;
-    let q = operand::locate(r, mem, 5, op % 8, z, f);
+    let q = operand::locate(r, mem, codes::DISPLACED, op % 8, z, f);
     let qf = q.flow;
     let w = every_other(mem, q.at, z, qf);
     let wf = w.flow;
@@ -215,12 +216,12 @@ pub fn movep_to_register(r: &mut [u32; 20], mem: &[u8], op: u32, f: Flow) -> Pla
     plan::nothing(wf)
 }
 
-pub fn movep_to_memory(r: &mut [u32; 20], mem: &[u8], op: u32, f: Flow) -> Plan
+pub fn movep_to_memory(r: &mut [u32; SLOTS], mem: &[u8], op: u32, f: Flow) -> Plan
     ensures { λ p. ⌜ record { r = now (r .exit); p = p } ≡ movep-to-memory (now (r .entry)) (view-of (now (mem .entry))) op f ⌝ }
 {
     let z = 1 + op / 64 % 2;
-    let q = operand::locate(r, mem, 5, op % 8, z, f);
+    let q = operand::locate(r, mem, codes::DISPLACED, op % 8, z, f);
     let g = q.flow;
     let v = bits::cut(operand::get(r, op / 512 % 8) as u64, z);
-    plan::writing(7 + z, q.at, v, g)
+    plan::writing(codes::EVERY_OTHER + op / 64 % 2, q.at, v, g)
 }

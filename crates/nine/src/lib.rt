@@ -1,9 +1,10 @@
 // lib.rt - four steps and four undos of a memory, each told in a line.
 // Means: nothing; proved safe. The lines are those of 01's small program.
-// Uses: machine, io, libc.  Source: [01 Set down and proved].
+// Uses: codes, machine, io, libc.  Source: [01 Set down and proved].
 use libc::STDOUT_FILENO;
 
 // The steps that stand, and the mark.
+use codes::SLOTS;
 struct Standing {
     steps: u32,
     mark: usize,
@@ -22,13 +23,13 @@ fn write_word(n: u32) {
     io::write_all(STDOUT_FILENO, &text);
 }
 
-fn write_line(slots: &[u32; 20], s: Standing) {
+fn write_line(slots: &[u32; SLOTS], s: Standing) {
     io::print_decimal(STDOUT_FILENO, s.steps as u64);
     io::write_all(STDOUT_FILENO, b" ");
-    write_word(slots[17] / 65536);
-    write_word(slots[17]);
+    write_word(slots[codes::PC] / 65536);
+    write_word(slots[codes::PC]);
     io::write_all(STDOUT_FILENO, b" ");
-    write_word(slots[18]);
+    write_word(slots[codes::SR]);
     io::write_all(STDOUT_FILENO, b" ");
     io::print_decimal(STDOUT_FILENO, s.mark as u64);
     io::write_all(STDOUT_FILENO, b"\n");
@@ -54,19 +55,19 @@ fn after_undo(s: Standing, number: u32, mark: usize) -> Standing {
     }
 }
 
-fn step(s: Standing, slots: &mut [u32; 20], memory: &mut [u8], journal: &mut [u8]) -> Standing {
+fn step(s: Standing, slots: &mut [u32; SLOTS], memory: &mut [u8], journal: &mut [u8]) -> Standing {
     let answer = machine::step(slots, memory, 0, 0, journal, s.mark);
     after_step(s, answer.number, answer.mark)
 }
 
-fn undo(s: Standing, slots: &mut [u32; 20], memory: &mut [u8], journal: &[u8]) -> Standing {
+fn undo(s: Standing, slots: &mut [u32; SLOTS], memory: &mut [u8], journal: &[u8]) -> Standing {
     let answer = machine::undo(slots, memory, journal, s.mark);
     after_undo(s, answer.number, answer.mark)
 }
 
 fn four_steps(
     s: Standing,
-    slots: &mut [u32; 20],
+    slots: &mut [u32; SLOTS],
     memory: &mut [u8],
     journal: &mut [u8],
 ) -> Standing {
@@ -78,7 +79,7 @@ fn four_steps(
     now
 }
 
-fn four_undos(s: Standing, slots: &mut [u32; 20], memory: &mut [u8], journal: &[u8]) {
+fn four_undos(s: Standing, slots: &mut [u32; SLOTS], memory: &mut [u8], journal: &[u8]) {
     let mut now = s;
     for _ in 0..4u32 {
         now = undo(now, slots, memory, journal);
@@ -86,7 +87,7 @@ fn four_undos(s: Standing, slots: &mut [u32; 20], memory: &mut [u8], journal: &[
     }
 }
 
-fn with_journal(slots: &mut [u32; 20], memory: &mut [u8], journal: &mut [u8; 4096]) {
+fn with_journal(slots: &mut [u32; SLOTS], memory: &mut [u8], journal: &mut [u8; 4096]) {
     let s = Standing { steps: 0, mark: 0 };
     write_line(slots, s);
     let t = four_steps(s, slots, memory, journal);
@@ -95,7 +96,7 @@ fn with_journal(slots: &mut [u32; 20], memory: &mut [u8], journal: &mut [u8; 409
 
 // Resets, takes four steps and undoes four; a line after each.
 pub fn nine_lines(memory: &mut [u8; 65536]) {
-    let mut slots = [0u32; 20];
+    let mut slots = [0u32; SLOTS];
     let mut journal = [0u8; 4096];
     machine::reset(&mut slots, memory);
     with_journal(&mut slots, memory, &mut journal);

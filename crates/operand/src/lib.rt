@@ -1,16 +1,17 @@
 // lib.rt - the register bank and the twelve addressing modes at three sizes, with their register steps and extension words.
 // Means: specs/Operands.antt.  Laws: proofs/OperandLaws.antt.
-// Uses: bits, bus.  Source: [003 2], [01 Operands], [01 step 7].
+// Uses: codes, bits, bus.  Source: [003 2], [01 Operands], [01 step 7].
 ghost use mathlib.Core.Path.{_≡_};
 ghost use Prim.Native.Nat.{ℕ, _+_, _*_, _%_, _/_, _<_, _≤_};
 ghost use lib.ListN.{getD, set};
 ghost use Rattle.bus.specs.Bus.{view-of};
 ghost use Rattle.operand.specs.Operands.{get, put, increment, in-register, in-memory, number, indirect, postincrement, predecrement, displaced, index-value, with-index, indexed, absolute-word, absolute-long, pc-displaced, pc-indexed, immediate, special, locate, load, put-low, operand-with-flow, source, target, modify};
+use codes::SLOTS;
 use bus::Fetched;
 use bus::Flow;
 
-// Where an operand lies: kind 0 is the register `at`, 1 memory at `at` (read as `k`: 17 data, 18 program), else the number `at`
-// itself. `reg` takes the value `step`, if it is a register. `f` is where the instruction stands then.
+// Where an operand lies, by its kind: the register `at`, memory at `at` (read by the kind of access), or the number `at` itself. `reg`
+// takes the value `step`, if it is a register. `flow` is where the instruction stands then.
 pub struct Operand {
     pub kind: u32,
     pub at: u32,
@@ -28,19 +29,19 @@ pub struct Both {
 
 // A register's value, 0 where there is none: 0 to 7 are D0 to D7, 8 to 15 A0 to A7 (the active one), 16 USP in supervisor state. The three
 // places behind them hold PC, SR and mode as they were, and no instruction reaches them.
-pub fn get(r: &[u32; 20], i: u32) -> u32
+pub fn get(r: &[u32; SLOTS], i: u32) -> u32
     ensures { λ q. ⌜ q ≡ get (now (r .entry)) i ⌝ }
 {
     let k = i as usize;
-    let there = i < 17;
+    let there = i < codes::NO_REGISTER;
     if there { r[k] } else { 0 }
 }
 
-pub fn put(r: &mut [u32; 20], i: u32, v: u32)
+pub fn put(r: &mut [u32; SLOTS], i: u32, v: u32)
     ensures { λ _. ⌜ now (r .exit) ≡ put (now (r .entry)) i v ⌝ }
 {
     let k = i as usize;
-    let there = i < 17;
+    let there = i < codes::NO_REGISTER;
     if there {
         r[k] = v;
         return;
@@ -53,7 +54,7 @@ pub fn increment(n: u32, z: u32) -> u32
 {
     let byte = z == 0;
     let word = z == 1;
-    let seven = n == 7;
+    let seven = n == codes::STACK_POINTER;
     if byte {
         return 1 + bits::bit(seven);
     }
@@ -67,10 +68,10 @@ fn in_register(i: u32, f: Flow) -> Operand
     ensures { λ q. ⌜ q ≡ in-register i f ⌝ }
 {
     Operand {
-        kind: 0,
+        kind: codes::IN_REGISTER,
         at: i,
         access: 0,
-        reg: 17,
+        reg: codes::NO_REGISTER,
         step: 0,
         flow: f,
     }
@@ -80,7 +81,7 @@ fn in_memory(a: u32, k: u32, reg: u32, step: u32, f: Flow) -> Operand
     ensures { λ q. ⌜ q ≡ in-memory a k reg step f ⌝ }
 {
     Operand {
-        kind: 1,
+        kind: codes::IN_MEMORY,
         at: a,
         access: k,
         reg,
@@ -93,53 +94,53 @@ fn number(v: u32, f: Flow) -> Operand
     ensures { λ q. ⌜ q ≡ number v f ⌝ }
 {
     Operand {
-        kind: 2,
+        kind: codes::IN_INSTRUCTION,
         at: v,
         access: 0,
-        reg: 17,
+        reg: codes::NO_REGISTER,
         step: 0,
         flow: f,
     }
 }
 
-fn indirect(r: &[u32; 20], n: u32, f: Flow) -> Operand
+fn indirect(r: &[u32; SLOTS], n: u32, f: Flow) -> Operand
     ensures { λ q. ⌜ q ≡ indirect (now (r .entry)) n f ⌝ }
 {
-    let a = get(r, 8 + n % 8);
-    in_memory(a, 17, 17, 0, f)
+    let a = get(r, codes::A0 + n % 8);
+    in_memory(a, codes::DATA_READ, codes::NO_REGISTER, 0, f)
 }
 
-fn postincrement(r: &[u32; 20], n: u32, z: u32, f: Flow) -> Operand
+fn postincrement(r: &[u32; SLOTS], n: u32, z: u32, f: Flow) -> Operand
     ensures { λ q. ⌜ q ≡ postincrement (now (r .entry)) n z f ⌝ }
 {
-    let a = get(r, 8 + n % 8);
+    let a = get(r, codes::A0 + n % 8);
     in_memory(
         a,
-        17,
-        8 + n % 8,
+        codes::DATA_READ,
+        codes::A0 + n % 8,
         std::num::wrapping_add_u32(a, increment(n, z)),
         f,
     )
 }
 
-fn predecrement(r: &[u32; 20], n: u32, z: u32, f: Flow) -> Operand
+fn predecrement(r: &[u32; SLOTS], n: u32, z: u32, f: Flow) -> Operand
     ensures { λ q. ⌜ q ≡ predecrement (now (r .entry)) n z f ⌝ }
 {
-    let a = bits::minus(get(r, 8 + n % 8), increment(n, z));
-    in_memory(a, 17, 8 + n % 8, a, f)
+    let a = bits::minus(get(r, codes::A0 + n % 8), increment(n, z));
+    in_memory(a, codes::DATA_READ, codes::A0 + n % 8, a, f)
 }
 
-fn displaced(r: &[u32; 20], mem: &[u8], n: u32, f: Flow) -> Operand
+fn displaced(r: &[u32; SLOTS], mem: &[u8], n: u32, f: Flow) -> Operand
     ensures { λ q. ⌜ q ≡ displaced (now (r .entry)) (view-of (now (mem .entry))) n f ⌝ }
 {
     let w = bus::next_word(mem, f);
     let g = w.flow;
-    let a = std::num::wrapping_add_u32(get(r, 8 + n % 8), bits::sign_word(w.value));
-    in_memory(a, 17, 17, 0, g)
+    let a = std::num::wrapping_add_u32(get(r, codes::A0 + n % 8), bits::sign_word(w.value));
+    in_memory(a, codes::DATA_READ, codes::NO_REGISTER, 0, g)
 }
 
 // The index register of an extension word: a word carried on to 32 bits, or a long.
-fn index_value(r: &[u32; 20], w: u32) -> u32
+fn index_value(r: &[u32; SLOTS], w: u32) -> u32
     ensures { λ q. ⌜ q ≡ index-value (now (r .entry)) w ⌝ }
 {
     let x = get(r, w / 4096 % 16);
@@ -151,20 +152,20 @@ fn index_value(r: &[u32; 20], w: u32) -> u32
 }
 
 // A base with the byte and the index register of an extension word.
-fn with_index(r: &[u32; 20], base: u32, w: u32) -> u32
+fn with_index(r: &[u32; SLOTS], base: u32, w: u32) -> u32
     ensures { λ q. ⌜ q ≡ with-index (now (r .entry)) base w ⌝ }
 {
     let x = index_value(r, w);
     std::num::wrapping_add_u32(std::num::wrapping_add_u32(base, bits::sign_byte(w)), x)
 }
 
-fn indexed(r: &[u32; 20], mem: &[u8], n: u32, f: Flow) -> Operand
+fn indexed(r: &[u32; SLOTS], mem: &[u8], n: u32, f: Flow) -> Operand
     ensures { λ q. ⌜ q ≡ indexed (now (r .entry)) (view-of (now (mem .entry))) n f ⌝ }
 {
     let w = bus::next_word(mem, f);
     let g = w.flow;
-    let a = with_index(r, get(r, 8 + n % 8), w.value);
-    in_memory(a, 17, 17, 0, g)
+    let a = with_index(r, get(r, codes::A0 + n % 8), w.value);
+    in_memory(a, codes::DATA_READ, codes::NO_REGISTER, 0, g)
 }
 
 fn absolute_word(mem: &[u8], f: Flow) -> Operand
@@ -172,7 +173,7 @@ fn absolute_word(mem: &[u8], f: Flow) -> Operand
 {
     let w = bus::next_word(mem, f);
     let g = w.flow;
-    in_memory(bits::sign_word(w.value), 17, 17, 0, g)
+    in_memory(bits::sign_word(w.value), codes::DATA_READ, codes::NO_REGISTER, 0, g)
 }
 
 fn absolute_long(mem: &[u8], f: Flow) -> Operand
@@ -180,7 +181,7 @@ fn absolute_long(mem: &[u8], f: Flow) -> Operand
 {
     let w = bus::next_long(mem, f);
     let g = w.flow;
-    in_memory(w.value, 17, 17, 0, g)
+    in_memory(w.value, codes::DATA_READ, codes::NO_REGISTER, 0, g)
 }
 
 fn pc_displaced(mem: &[u8], f: Flow) -> Operand
@@ -191,26 +192,26 @@ fn pc_displaced(mem: &[u8], f: Flow) -> Operand
     let g = w.flow;
     in_memory(
         std::num::wrapping_add_u32(pc, bits::sign_word(w.value)),
-        18,
-        17,
+        codes::PROGRAM_READ,
+        codes::NO_REGISTER,
         0,
         g,
     )
 }
 
-fn pc_indexed(r: &[u32; 20], mem: &[u8], f: Flow) -> Operand
+fn pc_indexed(r: &[u32; SLOTS], mem: &[u8], f: Flow) -> Operand
     ensures { λ q. ⌜ q ≡ pc-indexed (now (r .entry)) (view-of (now (mem .entry))) f ⌝ }
 {
     let pc = f.pc;
     let w = bus::next_word(mem, f);
     let g = w.flow;
-    in_memory(with_index(r, pc, w.value), 18, 17, 0, g)
+    in_memory(with_index(r, pc, w.value), codes::PROGRAM_READ, codes::NO_REGISTER, 0, g)
 }
 
 pub fn immediate(mem: &[u8], z: u32, f: Flow) -> Operand
     ensures { λ q. ⌜ q ≡ immediate (view-of (now (mem .entry))) z f ⌝ }
 {
-    let long = 2 <= z;
+    let long = codes::LONG <= z;
     if long {
         let w = bus::next_long(mem, f);
         let g = w.flow;
@@ -222,7 +223,7 @@ pub fn immediate(mem: &[u8], z: u32, f: Flow) -> Operand
 }
 
 // Mode 7, by its register number.
-fn special(r: &[u32; 20], mem: &[u8], n: u32, z: u32, f: Flow) -> Operand
+fn special(r: &[u32; SLOTS], mem: &[u8], n: u32, z: u32, f: Flow) -> Operand
     ensures { λ q. ⌜ q ≡ special (now (r .entry)) (view-of (now (mem .entry))) n z f ⌝ }
 {
     match n {
@@ -235,12 +236,12 @@ fn special(r: &[u32; 20], mem: &[u8], n: u32, z: u32, f: Flow) -> Operand
 }
 
 // The place of the operand of a mode and a register number. No register is stepped yet.
-pub fn locate(r: &[u32; 20], mem: &[u8], mode: u32, n: u32, z: u32, f: Flow) -> Operand
+pub fn locate(r: &[u32; SLOTS], mem: &[u8], mode: u32, n: u32, z: u32, f: Flow) -> Operand
     ensures { λ q. ⌜ q ≡ locate (now (r .entry)) (view-of (now (mem .entry))) mode n z f ⌝ }
 {
     match mode {
         0 => in_register(n, f),
-        1 => in_register(8 + n % 8, f),
+        1 => in_register(codes::A0 + n % 8, f),
         2 => indirect(r, n, f),
         3 => postincrement(r, n, z, f),
         4 => predecrement(r, n, z, f),
@@ -251,7 +252,7 @@ pub fn locate(r: &[u32; 20], mem: &[u8], mode: u32, n: u32, z: u32, f: Flow) -> 
 }
 
 // What an operand holds, cut to its size.
-pub fn load(r: &[u32; 20], mem: &[u8], p: Operand, z: u32, f: Flow) -> Fetched
+pub fn load(r: &[u32; SLOTS], mem: &[u8], p: Operand, z: u32, f: Flow) -> Fetched
     ensures { λ q. ⌜ q ≡ load (now (r .entry)) (view-of (now (mem .entry))) p z f ⌝ }
 {
     let kind = p.kind;
@@ -270,7 +271,7 @@ pub fn load(r: &[u32; 20], mem: &[u8], p: Operand, z: u32, f: Flow) -> Fetched
 }
 
 // The low byte, word or long of a register.
-pub fn put_low(r: &mut [u32; 20], i: u32, z: u32, v: u32)
+pub fn put_low(r: &mut [u32; SLOTS], i: u32, z: u32, v: u32)
     ensures { λ _. ⌜ now (r .exit) ≡ put-low (now (r .entry)) i z v ⌝ }
 {
     let old = get(r, i);
@@ -293,7 +294,7 @@ fn operand_with_flow(q: Operand, f: Flow) -> Operand
 }
 
 // The operand's value, with its register stepped.
-pub fn source(r: &mut [u32; 20], mem: &[u8], mode: u32, n: u32, z: u32, f: Flow) -> Fetched
+pub fn source(r: &mut [u32; SLOTS], mem: &[u8], mode: u32, n: u32, z: u32, f: Flow) -> Fetched
     ensures { λ w. ⌜ w ≡ source (now (r .entry)) (view-of (now (mem .entry))) mode n z f .w ⌝ }
     ensures { λ w. ⌜ now (r .exit) ≡ source (now (r .entry)) (view-of (now (mem .entry))) mode n z f .r ⌝ }
 {
@@ -305,7 +306,7 @@ pub fn source(r: &mut [u32; 20], mem: &[u8], mode: u32, n: u32, z: u32, f: Flow)
 }
 
 // The operand's place, with its register stepped.
-pub fn target(r: &mut [u32; 20], mem: &[u8], mode: u32, n: u32, z: u32, f: Flow) -> Operand
+pub fn target(r: &mut [u32; SLOTS], mem: &[u8], mode: u32, n: u32, z: u32, f: Flow) -> Operand
     ensures { λ q. ⌜ q ≡ target (now (r .entry)) (view-of (now (mem .entry))) mode n z f .q ⌝ }
     ensures { λ q. ⌜ now (r .exit) ≡ target (now (r .entry)) (view-of (now (mem .entry))) mode n z f .r ⌝ }
 {
@@ -315,7 +316,7 @@ pub fn target(r: &mut [u32; 20], mem: &[u8], mode: u32, n: u32, z: u32, f: Flow)
 }
 
 // The operand's value and place, with its register stepped.
-pub fn modify(r: &mut [u32; 20], mem: &[u8], mode: u32, n: u32, z: u32, f: Flow) -> Both
+pub fn modify(r: &mut [u32; SLOTS], mem: &[u8], mode: u32, n: u32, z: u32, f: Flow) -> Both
     ensures { λ b. ⌜ b ≡ modify (now (r .entry)) (view-of (now (mem .entry))) mode n z f .b ⌝ }
     ensures { λ b. ⌜ now (r .exit) ≡ modify (now (r .entry)) (view-of (now (mem .entry))) mode n z f .r ⌝ }
 {

@@ -1,8 +1,9 @@
 // main.rt - 01's examples that are run and compared: ADD.B, the halt of $4AFC with an odd SSP, the journal's 535 and 536 bytes, budget 0.
 // Means: nothing; its stored output is 01's text, worked out by hand.
-// Uses: machine, io.  Source: [01 Set down and proved].
+// Uses: codes, machine, io.  Source: [01 Set down and proved].
 
 // Numbers on one line, with a space after each.
+use codes::SLOTS;
 fn show(n: u32) {
     io::print_decimal(1, n as u64);
     io::write_all(1, b" ");
@@ -21,7 +22,7 @@ fn memory_with(high: u8, low: u8) -> [u8; 1024] {
 }
 
 // Twenty slots: D0 and D1, SSP, PC $200, SR $2700 and the mode.
-fn slots_with(d0: u32, d1: u32, ssp: u32, mode: u32) -> [u32; 20] {
+fn slots_with(d0: u32, d1: u32, ssp: u32, mode: u32) -> [u32; SLOTS] {
     [
         d0,
         d1,
@@ -54,7 +55,7 @@ fn add_byte() {
     let a = machine::step(&mut s, &mut m, 0, 0, &mut j, 0);
     show(a.number);
     show(s[0]);
-    show(s[18] % 32);
+    show(s[codes::SR] % codes::FLAGS);
     end_line();
 }
 
@@ -65,10 +66,10 @@ fn odd_stack() {
     let mut j = [0u8; 536];
     let a = machine::step(&mut s, &mut m, 0, 0, &mut j, 0);
     show(a.number);
-    show(s[19]);
-    show(s[16]);
-    show(s[17]);
-    show(s[18]);
+    show(s[codes::MODE]);
+    show(s[codes::SSP]);
+    show(s[codes::PC]);
+    show(s[codes::SR]);
     io::print_decimal(1, a.mark as u64);
     end_line();
 }

@@ -1,16 +1,17 @@
 // lib.rt - what an instruction leaves to do: one write, a trap or a stop, and where it stands. The instruction families share this.
 // Means: specs/Plans.antt.  Laws: proofs/PlanLaws.antt.
-// Uses: bits, flags, bus, operand.  Source: [01 step 3], [01 step 6], [01 step 9], [ours].
+// Uses: codes, bits, flags, bus, operand.  Source: [01 step 3], [01 step 6], [01 step 9], [ours].
 ghost use mathlib.Core.Path.{_≡_};
 ghost use Prim.Native.Nat.{ℕ, _+_, _*_, _%_, _/_, _<_, _≤_};
 ghost use Rattle.plan.specs.Plans.{Done, flagged, jump, nothing, trapping, refusing, stopping, writing, finish, push, quick};
+use codes::SLOTS;
 use bus::Flow;
 use flags::Flagged;
 use operand::Operand;
 
-// The write of v at `at`: z is 0 a byte, 1 a word, 2 a long, 3 nothing, 4 and 5 MOVEM's words and longs upward, 6 and 7 downward (v the
-// list, and 65,536 times the register that the list's address came from), 8 and 9 MOVEP's two and four bytes. `event` is 0, the vector of a trap, or
-// 256 for a stop; a plan with a trap writes nothing. `f` has the new PC and SR, and the fault if there is one: then nothing of this is done.
+// The write of `value` at `at`: `write` is its size, or none, or one of the blocks of `codes` (of MOVEM's, `value` is the list, and 65,536 times
+// the register that the list's address came from). `vector` is that of a trap, or none, or a stop; a plan with a trap writes nothing. `flow`
+// has the new PC and SR, and the fault if there is one: then nothing of this is done.
 pub struct Plan {
     pub write: u32,
     pub at: u32,
@@ -37,10 +38,10 @@ pub fn nothing(f: Flow) -> Plan
     ensures { λ p. ⌜ p ≡ nothing f ⌝ }
 {
     Plan {
-        write: 3,
+        write: codes::NO_WRITE,
         at: 0,
         value: 0,
-        vector: 0,
+        vector: codes::NO_VECTOR,
         flow: f,
     }
 }
@@ -50,7 +51,7 @@ pub fn trapping(vec: u32, f: Flow) -> Plan
     ensures { λ p. ⌜ p ≡ trapping vec f ⌝ }
 {
     Plan {
-        write: 3,
+        write: codes::NO_WRITE,
         at: 0,
         value: 0,
         vector: vec,
@@ -68,7 +69,7 @@ pub fn refusing(vec: u32, own: u32, f: Flow) -> Plan
 pub fn stopping(f: Flow) -> Plan
     ensures { λ p. ⌜ p ≡ stopping f ⌝ }
 {
-    trapping(256, f)
+    trapping(codes::STOP, f)
 }
 
 pub fn writing(z: u32, at: u32, v: u32, f: Flow) -> Plan
@@ -78,20 +79,20 @@ pub fn writing(z: u32, at: u32, v: u32, f: Flow) -> Plan
         write: z,
         at,
         value: v,
-        vector: 0,
+        vector: codes::NO_VECTOR,
         flow: f,
     }
 }
 
 // A result and its flags go to their places: into a register at once, and to memory as a plan.
-pub fn finish(r: &mut [u32; 20], q: Operand, z: u32, a: Flagged) -> Plan
+pub fn finish(r: &mut [u32; SLOTS], q: Operand, z: u32, a: Flagged) -> Plan
     ensures { λ p. ⌜ record { r = now (r .exit); p = p } ≡ finish (now (r .entry)) q z a ⌝ }
 {
     let kind = q.kind;
     let at = q.at;
     let f = q.flow;
     let g = flagged(f, a.ccr);
-    let inside = kind == 0;
+    let inside = kind == codes::IN_REGISTER;
     if inside {
         operand::put_low(r, at, z, a.value);
         return nothing(g);
@@ -100,12 +101,12 @@ pub fn finish(r: &mut [u32; 20], q: Operand, z: u32, a: Flagged) -> Plan
 }
 
 // A long on the stack.
-pub fn push(r: &mut [u32; 20], v: u32, f: Flow) -> Plan
+pub fn push(r: &mut [u32; SLOTS], v: u32, f: Flow) -> Plan
     ensures { λ p. ⌜ record { r = now (r .exit); p = p } ≡ push (now (r .entry)) v f ⌝ }
 {
-    let a = bits::minus(operand::get(r, 15), 4);
-    operand::put(r, 15, a);
-    writing(2, a, v, f)
+    let a = bits::minus(operand::get(r, codes::A7), 4);
+    operand::put(r, codes::A7, a);
+    writing(codes::LONG, a, v, f)
 }
 
 // The data of ADDQ and SUBQ, and the count of a shift: 0 means 8.

@@ -1,18 +1,18 @@
 // limits.rt - how much a record may hold, and which values a slot may have. The one place that says it.
 // Means: specs/Limits.antt.  Laws: proofs/SizeLaws.antt.
-// Uses: nothing.  Source: [01 The journal], [01 State].
+// Uses: codes.  Source: [01 The journal], [01 State].
 ghost use mathlib.Core.Path.{_≡_};
 ghost use Rattle.record.specs.Limits.{valid-status, valid-value};
 
-pub const SLOT_LIMIT: usize = 20;
+pub const SLOT_LIMIT: usize = codes::SLOTS;
 
 pub const BYTE_LIMIT: usize = 70;
 
 pub const LONGEST_RECORD: usize = 536;
 
-pub const STATUS_SLOT: u32 = 18;
+pub const STATUS_SLOT: u32 = codes::SR as u32;
 
-pub const MODE_SLOT: u32 = 19;
+pub const MODE_SLOT: u32 = codes::MODE as u32;
 
 // Whether v has no bit that the status register lacks.
 pub fn valid_status(v: u32) -> bool
@@ -29,7 +29,7 @@ pub fn valid_value(place: u32, v: u32) -> bool
         return valid_status(v);
     }
     if place == MODE_SLOT {
-        return v < 3;
+        return v < codes::MODES;
     }
     true
 }

@@ -3,11 +3,9 @@
 -- Uses: bits, flags, bus, plan, bank, record, exception, proofs/PlacesLaws.antt.  Source: [01 State], [01 The journal], [01 One step].
 -- * Status sr: a value that the slot of SR may have. status-of-parts, parts-of-status: it is one with flags, mask, S, T and no other bit.
 -- * status-of-supervisor, -interrupt, -write: the status registers that an exception, an interrupt and an instruction leave are such values.
--- * Sound s: twenty slots with values of a valid state. status-of-sound, sound-set, sound-of-enter, sound-of-settle.
--- * Reaches k m t: the outcome t has sound slots, and its memory is m touched in at most k places.
--- * reaches-of-still and -halted 0, -exception 6, -fault 14, -trap 6, -both 12, -after 70, -instruction 70, -interrupt 6, -one-step 70.
--- * length-of-one-step-memory, valid-slots-of-one-step, valid-bytes-of-one-step, places-of-one-step: facts of a step from sound slots and bytes.
---   one-step-keeps: these, and that the slots are as many (twenty-of-one-step), in one.
+-- * Sound s: twenty slots with values of a valid state. sound-keeps: the parts of a step keep it (Keeps of SlotsLaws).
+-- * touches-of-exception 6, -fault 14, -take-trap 6, -both 12, -carry-out 70, -one-step 70: so many places of memory at most.
+-- * one-step-keeps: both, of a step.
 use Prim.Native.Nat.{ℕ, _+_, _*_, _/_, _%_, _^_, _≤_, _<_}
 use native.Mathlib.Omega.{arith}
 use native.Mathlib.Nat.{div-add-mod', div-div-eq-div-mul}
@@ -17,19 +15,20 @@ use mathlib.Core.List.{List}
 use lib.ListN.{length, set, length-set}
 use lib.Dec.{ltb, eqb}
 use borrow.Author.Tests.{eq-eqb, eqb-true, lt-ltb}
+use Rattle.codes.specs.Codes.{Ssp, Pc, Sr, Mode, Running, Halted, Mask, Tracing, NoVector, Stop, NoWrite, DataRead}
 use Rattle.bits.specs.Bits.{pick, plus, minus}
 use Rattle.bits.proofs.BitsLaws.{bit-bound}
 use Rattle.flags.specs.Flags.{sr-bits, with-ccr}
 use Rattle.bus.specs.Bus.{View, view-of, read-long}
-use Rattle.record.specs.Limits.{slot-limit, byte-limit, status-slot, valid-status, valid-value, ValidSlots, ValidBytes}
+use Rattle.record.specs.Limits.{slot-limit, byte-limit, valid-status, valid-value, ValidSlots, ValidBytes}
 use Rattle.record.specs.Change.{diffs}
 use Rattle.plan.specs.declared.Plan.{Plan}
 use Rattle.bank.specs.Bank.{ssp-of, pc-of, sr-of, mode-of, supervisor, tracing, long, bank, sr-after, mode-after, settle}
-use Rattle.exception.specs.Exceptions.{Stepped, fresh, supervisor-sr, halted, enter, small-room, small-frame, exception, big-room, big-frame, fault-taken, fault}
+use Rattle.exception.specs.Exceptions.{Stepped, fresh, supervisor-sr, enter, small-room, exception, big-room, fault-taken, fault}
 use Rattle.step.specs.declared.Tried.{Tried}
 use Rattle.step.specs.Steps.{conclude, attempt, commit, trap-of, take-trap, traced, both, carry-out, instruction, interrupt-sr, interrupt, one-step}
 use Rattle.step.proofs.PlacesLaws.{pick-cases, each-at, each-set, Touches, touches-none, touches-then, touches-most, writes-of-small-frame, writes-of-big-frame, writes-of-commit}
-use Rattle.step.proofs.SlotsLaws.{twenty-of-one-step}
+use Rattle.step.proofs.SlotsLaws.{Keeps, kept-by-one-step}
 
 -- ---- status registers
 -- what slot 18 may hold
@@ -124,7 +123,7 @@ pub record Sound (s : List ℕ) : Type 0 where
 
 pub status-of-sound : (s : List ℕ) → Sound s → Status (sr-of s)
 unfolding valid-value
-status-of-sound s h = each-at (λ k v. (valid-value k v ≡ true) × (v < 2 ^ 32)) 0 s status-slot (h .values) (omega arith)
+status-of-sound s h = each-at (λ k v. (valid-value k v ≡ true) × (v < 2 ^ 32)) 0 s Sr (h .values) (omega arith)
 
 pub sound-set : (s : List ℕ) (k v : ℕ) → Sound s → (valid-value k v ≡ true) × (v < 2 ^ 32) → Sound (set s k v)
 sound-set s k v h ok =
@@ -138,15 +137,15 @@ sound-set s k v h ok =
 pub sound-of-enter : (s : List ℕ) (v : View) (a vec sr : ℕ) → Sound s → a < 2 ^ 32 → Status sr → Sound (enter s v a vec sr)
 unfolding enter valid-value
 sound-of-enter s v a vec sr h ha hs =
-    let pc = long (read-long v (vec % 256 * 4) 17 (fresh 0 0) .value) in
-    let h1 = sound-set s 16 a h (refl, ha) in
-    let h2 = sound-set (set s 16 a) 17 pc h1 (refl, omega arith) in
-    let h3 = sound-set (set (set s 16 a) 17 pc) 18 sr h2 hs in
-    sound-set (set (set (set s 16 a) 17 pc) 18 sr) 19 0 h3 (refl, omega arith)
+    let pc = long (read-long v (vec % 256 * 4) DataRead (fresh 0 0) .value) in
+    let s₁ = set s Ssp a in
+    let s₂ = set s₁ Pc pc in
+    let h₂ = sound-set s₁ Pc pc (sound-set s Ssp a h (refl, ha)) (refl, omega arith) in
+    sound-set (set s₂ Sr sr) Mode Running (sound-set s₂ Sr sr h₂ hs) (refl, omega arith)
 
-mode-bound : (sr event : ℕ) → mode-after sr event ≤ 1
+mode-bound : (sr vec : ℕ) → mode-after sr vec ≤ 1
 unfolding mode-after
-mode-bound sr event = bit-bound (eqb event 256 && supervisor sr && not (tracing sr))
+mode-bound sr vec = bit-bound (eqb vec Stop && supervisor sr && not (tracing sr))
 
 pub sound-of-settle : (s r : List ℕ) (p : Plan) → Sound s → Sound (settle s r p)
 unfolding settle valid-value
@@ -160,95 +159,82 @@ sound-of-settle s r p h =
           (w _, (w _, (w _, (w _, (w _, (w _, (w _, (w _, (w _, (w _, (w _, (w _, (w _, (w _, (w _, (w _, (w _, (w _, (sr, ((lt-ltb (mode-after (sr-of s) (p .vector)) 3 (omega arith), omega arith), tt))))))))))))))))))));
     }
 
--- ---- an outcome
-pub record Reaches (k : ℕ) (m : List ℕ) (t : Stepped) : Type 0 where
-  pub slots : Sound (t .s)
-  pub memory : Touches k m (t .m)
+sound-of-halted : (s : List ℕ) → Sound s → Sound (set s Mode Halted)
+unfolding valid-value
+sound-of-halted s h = sound-set s Mode Halted h (refl, omega arith)
 
-reaches-most : {j k : ℕ} {m : List ℕ} {t : Stepped} → Reaches j m t → j ≤ k → Reaches k m t
-reaches-most x h = record { slots = x .slots; memory = touches-most (x .memory) h }
+sound-keeps : Keeps Sound
+sound-keeps =
+    record {
+      halting = sound-of-halted;
+      trapping =
+          λ s v b vec h.
+          sound-of-enter s v (minus (ssp-of s) b) vec (supervisor-sr (sr-of s)) h (omega arith) (status-of-supervisor (sr-of s) (status-of-sound s h));
+      interrupting =
+          λ s v b vec level h.
+          sound-of-enter s v (minus (ssp-of s) b) vec (interrupt-sr (sr-of s) level) h (omega arith) (status-of-interrupt (sr-of s) (status-of-sound s h) level);
+      settling = sound-of-settle;
+    }
 
-module _ (s m : List ℕ) (hs : Sound s) (hm : ValidBytes m) where
-  -- nothing changed
-  pub reaches-of-still : (k : ℕ) → Reaches k m (record { s = s; m = m; event = 0 })
-  reaches-of-still k = record { slots = hs; memory = touches-none k m hm }
-
-  pub reaches-of-halted : (k : ℕ) → Reaches k m (halted s m)
-  unfolding valid-value
-  reaches-of-halted k = record { slots = sound-set s 19 2 hs (refl, omega arith); memory = touches-none k m hm }
-
-  pub reaches-of-exception : (vec sr : ℕ) → Status sr → Reaches 6 m (exception s m vec sr)
+-- ---- memory
+module _ (s m : List ℕ) (h : ValidBytes m) where
+  touches-of-exception : (vec sr : ℕ) → Touches 6 m (exception s m vec sr .m)
   unfolding exception
-  reaches-of-exception vec sr ok =
+  touches-of-exception vec sr =
       let a = minus (ssp-of s) 6 in
-      let n = small-frame m a (sr-of s) (pc-of s) in
-      pick-cases (Reaches 6 m) (small-room (view-of m) a)
-      (record { slots = sound-of-enter s (view-of n) a vec sr hs (omega arith) ok; memory = writes-of-small-frame a (sr-of s) (pc-of s) .touch m hm })
-      (reaches-of-halted 6)
+      pick-cases (λ (t : Stepped). Touches 6 m (t .m)) (small-room (view-of m) a)
+      (writes-of-small-frame a (sr-of s) (pc-of s) .touch m h)
+      (touches-none 6 m h)
 
-  pub reaches-of-fault : (bad op : ℕ) → Reaches 14 m (fault s m bad op)
+  touches-of-fault : (bad op : ℕ) → Touches 14 m (fault s m bad op .m)
   unfolding fault fault-taken
-  reaches-of-fault bad op =
+  touches-of-fault bad op =
       let a = minus (ssp-of s) 14 in
-      let pc = plus (pc-of s) 2 in
-      let n = big-frame m a bad op (sr-of s) pc in
-      pick-cases (Reaches 14 m) (big-room (view-of m) a)
-      (record {
-        slots = sound-of-enter s (view-of n) a (bad % 4) (supervisor-sr (sr-of s)) hs (omega arith) (status-of-supervisor (sr-of s) (status-of-sound s hs));
-        memory = writes-of-big-frame a bad op (sr-of s) pc .touch m hm;
-      })
-      (reaches-of-halted 14)
+      pick-cases (λ (t : Stepped). Touches 14 m (t .m)) (big-room (view-of m) a)
+      (writes-of-big-frame a bad op (sr-of s) (plus (pc-of s) 2) .touch m h)
+      (touches-none 14 m h)
 
-  pub reaches-of-take-trap : (vec : ℕ) → Reaches 6 m (take-trap s m vec)
+  touches-of-take-trap : (vec : ℕ) → Touches 6 m (take-trap s m vec .m)
   unfolding take-trap
-  reaches-of-take-trap vec =
-      pick-cases (Reaches 6 m) (ltb 0 vec)
-      (reaches-of-exception vec (supervisor-sr (sr-of s)) (status-of-supervisor (sr-of s) (status-of-sound s hs)))
-      (reaches-of-still 6)
+  touches-of-take-trap vec =
+      pick-cases (λ (t : Stepped). Touches 6 m (t .m)) (ltb NoVector vec) (touches-of-exception vec (supervisor-sr (sr-of s))) (touches-none 6 m h)
 
-  pub reaches-of-interrupt : (level vector : ℕ) → Reaches 6 m (interrupt s m level vector)
-  unfolding interrupt
-  reaches-of-interrupt level vector =
-      reaches-of-exception vector (interrupt-sr (sr-of s) level) (status-of-interrupt (sr-of s) (status-of-sound s hs) level)
-
-module _ (s m : List ℕ) (hs : Sound s) (hm : ValidBytes m) where
-  pub reaches-of-both : (vec : ℕ) (trace : Bool) → Reaches 12 m (both s m vec trace)
+module _ (s m : List ℕ) (h : ValidBytes m) where
+  touches-of-both : (vec : ℕ) (trace : Bool) → Touches 12 m (both s m vec trace .m)
   unfolding both
-  reaches-of-both vec trace =
+  touches-of-both vec trace =
       let a = take-trap s m vec in
-      let x = reaches-of-take-trap s m hs hm vec in
-      let y = reaches-of-take-trap (a .s) (a .m) (x .slots) (x .memory .bytes) (traced vec trace (a .event)) in
-      record { slots = y .slots; memory = touches-then (x .memory) (y .memory) }
+      let x = touches-of-take-trap s m h vec in
+      touches-then x (touches-of-take-trap (a .s) (a .m) (x .bytes) (traced vec trace (a .event)))
 
-  pub reaches-of-carry-out : (r : List ℕ) (p : Plan) (trace : Bool) → Reaches 70 m (carry-out s m r p trace)
+  touches-of-carry-out : (r : List ℕ) (p : Plan) (trace : Bool) → Touches 70 m (carry-out s m r p trace .m)
   unfolding carry-out
-  reaches-of-carry-out r p trace =
-      let w = writes-of-commit r p .touch m hm in
-      let x = reaches-of-take-trap s (commit m r p) hs (w .bytes) (pick trace 9 0) in
-      pick-cases (Reaches 70 m) (eqb (p .write) 3)
-      (reaches-most (reaches-of-both (trap-of p) trace) (omega arith))
-      (record { slots = x .slots; memory = touches-then w (x .memory) })
+  touches-of-carry-out r p trace =
+      let w = writes-of-commit r p .touch m h in
+      pick-cases (λ (t : Stepped). Touches 70 m (t .m)) (eqb (p .write) NoWrite)
+      (touches-most (touches-of-both (trap-of p) trace) (omega arith))
+      (touches-then w (touches-of-take-trap s (commit m r p) (w .bytes) (pick trace Tracing NoVector)))
 
-module _ (s m : List ℕ) (hs : Sound s) (hm : ValidBytes m) where
-  pub reaches-of-conclude : (r : List ℕ) (t : Tried) → Reaches 70 m (conclude s m r t)
+module _ (s m : List ℕ) (h : ValidBytes m) where
+  touches-of-conclude : (r : List ℕ) (t : Tried) → Touches 70 m (conclude s m r t .m)
   unfolding conclude
-  reaches-of-conclude r t =
+  touches-of-conclude r t =
       let p = t .p in
-      pick-cases (Reaches 70 m) (eqb (p .flow .bad) 0)
-      (reaches-of-carry-out (settle s r p) m (sound-of-settle s r p hs) hm r p (tracing (sr-of s)))
-      (reaches-most (reaches-of-fault s m hs hm (p .flow .bad) (t .op)) (omega arith))
+      pick-cases (λ (t : Stepped). Touches 70 m (t .m)) (eqb (p .flow .bad) 0)
+      (touches-of-carry-out (settle s r p) m h r p (tracing (sr-of s)))
+      (touches-most (touches-of-fault s m h (p .flow .bad) (t .op)) (omega arith))
 
-  pub reaches-of-instruction : Reaches 70 m (instruction s m)
+  touches-of-instruction : Touches 70 m (instruction s m .m)
   unfolding instruction
-  reaches-of-instruction =
-      let a = attempt (bank s) (view-of m) (fresh (pc-of s) (sr-of s)) in reaches-of-conclude (a .r) (a .t)
+  touches-of-instruction =
+      let a = attempt (bank s) (view-of m) (fresh (pc-of s) (sr-of s)) in touches-of-conclude (a .r) (a .t)
 
-  pub reaches-of-one-step : (level vector : ℕ) → Reaches 70 m (one-step s m level vector)
-  unfolding one-step
-  reaches-of-one-step level vector =
-      pick-cases (Reaches 70 m) (eqb level 7 || ltb (sr-of s / 256 % 8) level)
-      (reaches-most (reaches-of-interrupt s m hs hm level vector) (omega arith))
-      (pick-cases (Reaches 70 m) (eqb (mode-of s) 0) reaches-of-instruction (reaches-of-still s m hs hm 70))
+  touches-of-one-step : (level vector : ℕ) → Touches 70 m (one-step s m level vector .m)
+  unfolding one-step interrupt
+  touches-of-one-step level vector =
+      pick-cases (λ (t : Stepped). Touches 70 m (t .m)) (eqb level 7 || ltb (sr-of s / Mask % 8) level)
+      (touches-most (touches-of-exception s m h vector (interrupt-sr (sr-of s) level)) (omega arith))
+      (pick-cases (λ (t : Stepped). Touches 70 m (t .m)) (eqb (mode-of s) Running) touches-of-instruction (touches-none 70 m h))
 
 -- ---- the theorem
 -- what a step keeps: lengths, the values of a valid state, bytes; and at most byte-limit bytes differ
@@ -260,27 +246,10 @@ pub record Kept (s m t n : List ℕ) : Type 0 where
   pub few : length (diffs 0 m n) ≤ byte-limit
 
 module _ (s m : List ℕ) (level vector : ℕ) (slots : length s ≡ slot-limit) (values : ValidSlots s) (bytes : ValidBytes m) where
-  reached : Reaches 70 m (one-step s m level vector)
-  reached = reaches-of-one-step s m (record { slots = slots; values = values }) bytes level vector
-
-  pub length-of-one-step-memory : length (one-step s m level vector .m) ≡ length m
-  length-of-one-step-memory = reached .memory .same
-
-  pub valid-slots-of-one-step : ValidSlots (one-step s m level vector .s)
-  valid-slots-of-one-step = reached .slots .values
-
-  pub valid-bytes-of-one-step : ValidBytes (one-step s m level vector .m)
-  valid-bytes-of-one-step = reached .memory .bytes
-
-  pub places-of-one-step : length (diffs 0 m (one-step s m level vector .m)) ≤ byte-limit
-  places-of-one-step = reached .memory .few
+  reached : Touches 70 m (one-step s m level vector .m)
+  reached = touches-of-one-step s m bytes level vector
 
   pub one-step-keeps : Kept s m (one-step s m level vector .s) (one-step s m level vector .m)
   one-step-keeps =
-      record {
-        slots = twenty-of-one-step s m slots level vector ∙ sym slots;
-        memory = length-of-one-step-memory;
-        values = valid-slots-of-one-step;
-        bytes = valid-bytes-of-one-step;
-        few = places-of-one-step;
-      }
+      let after = kept-by-one-step Sound sound-keeps s m (record { slots = slots; values = values }) level vector in
+      record { slots = after .slots ∙ sym slots; memory = reached .same; values = after .values; bytes = reached .bytes; few = reached .few }

@@ -1,15 +1,17 @@
--- SlotsLaws.antt - twenty slots stay twenty in a step, whatever they hold.
+-- SlotsLaws.antt - a property of the slots that the parts of a step keep, the step keeps: one walk for all such properties.
 -- Speaks of: settle of bank, exception and fault of exception, specs/Steps.antt. No instruction is looked at: `execute` stays shut.
--- Source: [01 State].
--- * twenty-of-one-step: the law; the others say it of the parts of a step.
+-- Source: [01 State], [01 One step].
+-- * Keeps P: halting, the entry of an exception and the end of an instruction keep P.
+-- * kept-by-one-step: then a step keeps it. twenty-of-one-step: twenty slots stay twenty, whatever they hold.
 use Prim.Native.Nat.{ℕ, _*_, _/_, _%_}
 use mathlib.Core.Path.{_≡_, refl, _∙_}
 use mathlib.Core.Bool.{Bool, _||_}
 use mathlib.Core.List.{List}
 use lib.ListN.{length, set, length-set}
 use lib.Dec.{ltb, eqb}
+use Rattle.codes.specs.Codes.{Ssp, Pc, Sr, Mode, Running, Halted, Mask, Tracing, NoVector, NoWrite, DataRead}
 use Rattle.bits.specs.Bits.{pick, minus}
-use Rattle.bus.specs.Bus.{View, view-of, read-long}
+use Rattle.bus.specs.Bus.{View, view-of, read-long, fault-vector}
 use Rattle.record.specs.Limits.{slot-limit}
 use Rattle.plan.specs.declared.Plan.{Plan}
 use Rattle.bank.specs.Bank.{long, ssp-of, pc-of, sr-of, mode-of, tracing, bank, settle}
@@ -18,67 +20,92 @@ use Rattle.step.specs.declared.Tried.{Tried}
 use Rattle.step.specs.Steps.{conclude, attempt, commit, trap-of, take-trap, traced, both, carry-out, instruction, interrupt-sr, interrupt, one-step}
 use Rattle.step.proofs.PlacesLaws.{pick-cases}
 
-abbrev pub Twenty : Stepped → Type 0
-Twenty t = length (t .s) ≡ slot-limit
+pub record Keeps (P : List ℕ → Type 0) : Type 0 where
+  pub halting : (s : List ℕ) → P s → P (set s Mode Halted)
+  pub trapping : (s : List ℕ) (v : View) (b vec : ℕ) → P s → P (enter s v (minus (ssp-of s) b) vec (supervisor-sr (sr-of s)))
+  pub interrupting : (s : List ℕ) (v : View) (b vec level : ℕ) → P s → P (enter s v (minus (ssp-of s) b) vec (interrupt-sr (sr-of s) level))
+  pub settling : (s r : List ℕ) (p : Plan) → P s → P (settle s r p)
 
-twenty-of-set : (s : List ℕ) (k v : ℕ) → length s ≡ slot-limit → length (set s k v) ≡ slot-limit
+module _ (P : List ℕ → Type 0) (keeps : Keeps P) where
+  abbrev InSlots : Stepped → Type 0
+  InSlots t = P (t .s)
+
+  module _ (s m : List ℕ) (h : P s) where
+    kept-by-exception : (vec sr : ℕ) → ((v : View) → P (enter s v (minus (ssp-of s) 6) vec sr)) → InSlots (exception s m vec sr)
+    unfolding exception
+    kept-by-exception vec sr e = pick-cases InSlots (small-room (view-of m) (minus (ssp-of s) 6)) (e _) (keeps .halting s h)
+
+    kept-by-fault : (bad op : ℕ) → InSlots (fault s m bad op)
+    unfolding fault fault-taken
+    kept-by-fault bad op =
+        pick-cases InSlots (big-room (view-of m) (minus (ssp-of s) 14)) (keeps .trapping s _ 14 (fault-vector bad) h) (keeps .halting s h)
+
+    kept-by-take-trap : (vec : ℕ) → InSlots (take-trap s m vec)
+    unfolding take-trap
+    kept-by-take-trap vec =
+        pick-cases InSlots (ltb NoVector vec) (kept-by-exception vec (supervisor-sr (sr-of s)) (λ v. keeps .trapping s v 6 vec h)) h
+
+  module _ (s m : List ℕ) (h : P s) where
+    kept-by-both : (vec : ℕ) (trace : Bool) → InSlots (both s m vec trace)
+    unfolding both
+    kept-by-both vec trace =
+        let a = take-trap s m vec in kept-by-take-trap (a .s) (a .m) (kept-by-take-trap s m h vec) (traced vec trace (a .event))
+
+    kept-by-carry-out : (r : List ℕ) (p : Plan) (trace : Bool) → InSlots (carry-out s m r p trace)
+    unfolding carry-out
+    kept-by-carry-out r p trace =
+        pick-cases InSlots (eqb (p .write) NoWrite)
+        (kept-by-both (trap-of p) trace)
+        (kept-by-take-trap s (commit m r p) h (pick trace Tracing NoVector))
+
+  module _ (s m : List ℕ) (h : P s) where
+    kept-by-conclude : (r : List ℕ) (t : Tried) → InSlots (conclude s m r t)
+    unfolding conclude
+    kept-by-conclude r t =
+        let p = t .p in
+        pick-cases InSlots (eqb (p .flow .bad) 0)
+        (kept-by-carry-out (settle s r p) m (keeps .settling s r p h) r p (tracing (sr-of s)))
+        (kept-by-fault s m h (p .flow .bad) (t .op))
+
+    kept-by-instruction : InSlots (instruction s m)
+    unfolding instruction
+    kept-by-instruction =
+        let a = attempt (bank s) (view-of m) (fresh (pc-of s) (sr-of s)) in kept-by-conclude (a .r) (a .t)
+
+    pub kept-by-one-step : (level vector : ℕ) → InSlots (one-step s m level vector)
+    unfolding one-step interrupt
+    kept-by-one-step level vector =
+        pick-cases InSlots (eqb level 7 || ltb (sr-of s / Mask % 8) level)
+        (kept-by-exception s m h vector (interrupt-sr (sr-of s) level) (λ v. keeps .interrupting s v 6 vector level h))
+        (pick-cases InSlots (eqb (mode-of s) Running) kept-by-instruction h)
+
+-- ---- twenty slots
+abbrev Twenty : List ℕ → Type 0
+Twenty s = length s ≡ slot-limit
+
+twenty-of-set : (s : List ℕ) (k v : ℕ) → Twenty s → Twenty (set s k v)
 twenty-of-set s k v h = length-set s k v ∙ h
 
-module _ (s m : List ℕ) (h : length s ≡ slot-limit) where
-  twenty-of-enter : (v : View) (a vec sr : ℕ) → length (enter s v a vec sr) ≡ slot-limit
-  unfolding enter
-  twenty-of-enter v a vec sr =
-      let pc = long (read-long v (vec % 256 * 4) 17 (fresh 0 0) .value) in
-      let s₁ = set s 16 a in
-      let s₂ = set s₁ 17 pc in
-      twenty-of-set (set s₂ 18 sr) 19 0 (twenty-of-set s₂ 18 sr (twenty-of-set s₁ 17 pc (twenty-of-set s 16 a h)))
+twenty-of-enter : (s : List ℕ) (v : View) (a vec sr : ℕ) → Twenty s → Twenty (enter s v a vec sr)
+unfolding enter
+twenty-of-enter s v a vec sr h =
+    let pc = long (read-long v (vec % 256 * 4) DataRead (fresh 0 0) .value) in
+    let s₁ = set s Ssp a in
+    let s₂ = set s₁ Pc pc in
+    twenty-of-set (set s₂ Sr sr) Mode Running (twenty-of-set s₂ Sr sr (twenty-of-set s₁ Pc pc (twenty-of-set s Ssp a h)))
 
-  twenty-of-halted : Twenty (halted s m)
-  twenty-of-halted = twenty-of-set s 19 2 h
+twenty-of-settle : (s r : List ℕ) (p : Plan) → Twenty (settle s r p)
+unfolding settle
+twenty-of-settle s r p = refl
 
-  twenty-of-exception : (vec sr : ℕ) → Twenty (exception s m vec sr)
-  unfolding exception
-  twenty-of-exception vec sr = pick-cases Twenty (small-room (view-of m) (minus (ssp-of s) 6)) (twenty-of-enter _ _ vec sr) twenty-of-halted
+twenty-keeps : Keeps Twenty
+twenty-keeps =
+    record {
+      halting = λ s h. twenty-of-set s Mode Halted h;
+      trapping = λ s v b vec h. twenty-of-enter s v (minus (ssp-of s) b) vec (supervisor-sr (sr-of s)) h;
+      interrupting = λ s v b vec level h. twenty-of-enter s v (minus (ssp-of s) b) vec (interrupt-sr (sr-of s) level) h;
+      settling = λ s r p h. twenty-of-settle s r p;
+    }
 
-  twenty-of-fault : (bad op : ℕ) → Twenty (fault s m bad op)
-  unfolding fault fault-taken
-  twenty-of-fault bad op = pick-cases Twenty (big-room (view-of m) (minus (ssp-of s) 14)) (twenty-of-enter _ _ _ _) twenty-of-halted
-
-  twenty-of-take-trap : (vec : ℕ) → Twenty (take-trap s m vec)
-  unfolding take-trap
-  twenty-of-take-trap vec = pick-cases Twenty (ltb 0 vec) (twenty-of-exception vec (supervisor-sr (sr-of s))) h
-
-module _ (s m : List ℕ) (h : length s ≡ slot-limit) where
-  twenty-of-both : (vec : ℕ) (trace : Bool) → Twenty (both s m vec trace)
-  unfolding both
-  twenty-of-both vec trace =
-      let a = take-trap s m vec in twenty-of-take-trap (a .s) (a .m) (twenty-of-take-trap s m h vec) (traced vec trace (a .event))
-
-  twenty-of-carry-out : (r : List ℕ) (p : Plan) (trace : Bool) → Twenty (carry-out s m r p trace)
-  unfolding carry-out
-  twenty-of-carry-out r p trace = pick-cases Twenty (eqb (p .write) 3) (twenty-of-both (trap-of p) trace) (twenty-of-take-trap s (commit m r p) h (pick trace 9 0))
-
-module _ (s m : List ℕ) (h : length s ≡ slot-limit) where
-  twenty-of-settle : (r : List ℕ) (p : Plan) → length (settle s r p) ≡ slot-limit
-  unfolding settle
-  twenty-of-settle r p = refl
-
-  twenty-of-conclude : (r : List ℕ) (t : Tried) → Twenty (conclude s m r t)
-  unfolding conclude
-  twenty-of-conclude r t =
-      let p = t .p in
-      pick-cases Twenty (eqb (p .flow .bad) 0)
-      (twenty-of-carry-out (settle s r p) m (twenty-of-settle r p) r p (tracing (sr-of s)))
-      (twenty-of-fault s m h (p .flow .bad) (t .op))
-
-  twenty-of-instruction : Twenty (instruction s m)
-  unfolding instruction
-  twenty-of-instruction =
-      let a = attempt (bank s) (view-of m) (fresh (pc-of s) (sr-of s)) in twenty-of-conclude (a .r) (a .t)
-
-  pub twenty-of-one-step : (level vector : ℕ) → Twenty (one-step s m level vector)
-  unfolding one-step interrupt
-  twenty-of-one-step level vector =
-      pick-cases Twenty (eqb level 7 || ltb (sr-of s / 256 % 8) level)
-      (twenty-of-exception s m h vector (interrupt-sr (sr-of s) level))
-      (pick-cases Twenty (eqb (mode-of s) 0) twenty-of-instruction h)
+pub twenty-of-one-step : (s m : List ℕ) → length s ≡ slot-limit → (level vector : ℕ) → length (one-step s m level vector .s) ≡ slot-limit
+twenty-of-one-step s m h level vector = kept-by-one-step Twenty twenty-keeps s m h level vector

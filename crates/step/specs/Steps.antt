@@ -5,6 +5,8 @@ use Prim.Native.Nat.{ℕ, _+_, _*_, _%_, _/_}
 use mathlib.Core.Bool.{Bool, true, false, _&&_, _||_, not}
 use mathlib.Core.List.{List}
 use lib.Dec.{ltb, eqb}
+use Rattle.codes.specs.Codes.{Running, Mask, Supervisor, IllegalWord, Privilege, Tracing, Line1010, Line1111, NoVector, Stop, NoEvent, HaltEvent}
+use Rattle.codes.specs.Codes.{NoWrite}
 use Rattle.bits.specs.Bits.{pick, bit}
 use Rattle.bus.specs.declared.Flow.{Flow}
 use Rattle.bus.specs.Bus.{View, view-of, next-word, room, put-sized}
@@ -22,8 +24,8 @@ plan-with-flow p f = record { write = p .write; at = p .at; value = p .value; ve
 -- a write needs room: else it is the fault of its first failing word  [01 step 6] [01 step 7]
 unfoldable pub checked : View → Plan → Plan
 checked v p =
-    pick (eqb (p .write) 3) p
-    (pick (ltb (p .write) 3) (plan-with-flow p (room v (p .at) (p .write) (p .flow))) (plan-with-flow p (block-room v p)))
+    pick (eqb (p .write) NoWrite) p
+    (pick (ltb (p .write) NoWrite) (plan-with-flow p (room v (p .at) (p .write) (p .flow))) (plan-with-flow p (block-room v p)))
 
 -- an operation word and its instruction, up to its writes: it sees the registers, PC, SR and the view of memory  [01 step 6]
 pub record Attempt : Type 0 where
@@ -38,30 +40,30 @@ attempt r v f =
 
 -- the write of a plan that has one  [01 step 6]
 unfoldable pub commit : List ℕ → List ℕ → Plan → List ℕ
-commit m r p = pick (ltb (p .write) 3) (put-sized m (p .at) (p .write) (p .value)) (block-put m r p)
+commit m r p = pick (ltb (p .write) NoWrite) (put-sized m (p .at) (p .write) (p .value)) (block-put m r p)
 
--- the vector of a plan's trap, or 0; event 256 is a stop  [01 step 2]
+-- the vector of a plan's trap, or none: a stop is no trap  [01 step 2]
 unfoldable pub trap-of : Plan → ℕ
-trap-of p = pick (ltb (p .vector) 256) (p .vector) 0
+trap-of p = pick (ltb (p .vector) Stop) (p .vector) NoVector
 
--- vector 0 stands for none here  [ours]
+-- the exception of a vector, and nothing where there is none  [ours]
 unfoldable pub take-trap : List ℕ → List ℕ → ℕ → Stepped
-take-trap s m vec = pick (ltb 0 vec) (exception s m vec (supervisor-sr (sr-of s))) (record { s = s; m = m; event = 0 })
+take-trap s m vec = pick (ltb NoVector vec) (exception s m vec (supervisor-sr (sr-of s))) (record { s = s; m = m; event = NoEvent })
 
--- trace, vector 9, follows if T was 1 at the start, unless the instruction was refused by 4, 8, 10, 11 or the machine halted  [01 step 5]
+-- trace follows if T was 1 at the start, unless the instruction was refused or the machine halted  [01 step 5]
 unfoldable pub traced : ℕ → Bool → ℕ → ℕ
-traced vec trace event = bit (trace && not (eqb vec 4 || eqb vec 8 || eqb vec 10 || eqb vec 11) && not (eqb event 257)) * 9
+traced vec trace event = bit (trace && not (eqb vec IllegalWord || eqb vec Privilege || eqb vec Line1010 || eqb vec Line1111) && not (eqb event HaltEvent)) * Tracing
 
 -- the trap, then the trace, whose "next" is the trap's handler; the first event counts  [01 step 3] [01 step 5]
 unfoldable pub both : List ℕ → List ℕ → ℕ → Bool → Stepped
 both s m vec trace =
     let a = take-trap s m vec in
     let b = take-trap (a .s) (a .m) (traced vec trace (a .event)) in
-    record { s = b .s; m = b .m; event = pick (eqb (a .event) 0) (b .event) (a .event) }
+    record { s = b .s; m = b .m; event = pick (eqb (a .event) NoEvent) (b .event) (a .event) }
 
 -- an instruction that writes takes no trap; one that takes a trap writes nothing  [01 step 5] [01 step 6]
 unfoldable pub carry-out : List ℕ → List ℕ → List ℕ → Plan → Bool → Stepped
-carry-out s m r p trace = pick (eqb (p .write) 3) (both s m (trap-of p) trace) (take-trap s (commit m r p) (pick trace 9 0))
+carry-out s m r p trace = pick (eqb (p .write) NoWrite) (both s m (trap-of p) trace) (take-trap s (commit m r p) (pick trace Tracing NoVector))
 
 -- the end of an instruction; one that faults keeps nothing of its work  [01 step 7]
 unfoldable pub conclude : List ℕ → List ℕ → List ℕ → Tried → Stepped
@@ -75,7 +77,7 @@ instruction s m = let a = attempt (bank s) (view-of m) (fresh (pc-of s) (sr-of s
 
 -- S set, T clear, and the mask is the level, once SR is copied  [01 One step]
 abbrev pub interrupt-sr : ℕ → ℕ → ℕ
-interrupt-sr sr level = 8192 + level % 8 * 256 + sr % 256
+interrupt-sr sr level = Supervisor + level % 8 * Mask + sr % Mask
 
 -- an interrupt: the saved PC is the current one  [01 One step]
 unfoldable pub interrupt : List ℕ → List ℕ → ℕ → ℕ → Stepped
@@ -84,5 +86,5 @@ interrupt s m level vector = exception s m vector (interrupt-sr (sr-of s) level)
 -- level 7, or above the mask: the interrupt; else a machine that does not run changes nothing; else one instruction  [01 One step]
 unfoldable pub one-step : List ℕ → List ℕ → ℕ → ℕ → Stepped
 one-step s m level vector =
-    pick (eqb level 7 || ltb (sr-of s / 256 % 8) level) (interrupt s m level vector)
-    (pick (eqb (mode-of s) 0) (instruction s m) (record { s = s; m = m; event = 0 }))
+    pick (eqb level 7 || ltb (sr-of s / Mask % 8) level) (interrupt s m level vector)
+    (pick (eqb (mode-of s) Running) (instruction s m) (record { s = s; m = m; event = NoEvent }))

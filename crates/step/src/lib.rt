@@ -1,6 +1,6 @@
 // lib.rt - one whole step: the attempt of an instruction, its writes, its trap, trace, interrupts, a stopped machine.
 // Means: specs/Steps.antt.  Laws: proofs/StepLaws.antt, proofs/NotedLaws.antt.
-// Uses: bits, bus, plan, movem, store, touch, bank, exception, execute.  Source: [01 One step].
+// Uses: codes, bits, bus, plan, movem, store, touch, bank, exception, execute.  Source: [01 One step].
 ghost use mathlib.Core.Path.{_≡_};
 ghost use Prim.Native.Nat.{ℕ, _+_, _≤_};
 ghost use lib.ListN.{length};
@@ -8,6 +8,7 @@ ghost use Rattle.bank.specs.Bank.{settle};
 ghost use Rattle.bus.specs.Bus.{view-of};
 ghost use Rattle.touch.specs.Touch.{LogOk, Noted};
 ghost use Rattle.step.specs.Steps.{plan-with-flow, checked, Attempt, attempt, commit, trap-of, take-trap, traced, both, carry-out, conclude, instruction, interrupt-sr, interrupt, one-step};
+use codes::SLOTS;
 use bus::Flow;
 use exception::Ended;
 use plan::Plan;
@@ -29,8 +30,8 @@ fn checked(mem: &[u8], p: Plan) -> Plan
     ensures { λ q. ⌜ q ≡ checked (view-of (now (mem .entry))) p ⌝ }
 {
     let f = p.flow;
-    let none = p.write == 3;
-    let one = p.write < 3;
+    let none = p.write == codes::NO_WRITE;
+    let one = p.write < codes::NO_WRITE;
     if none {
         return p;
     }
@@ -47,7 +48,7 @@ pub struct Tried {
 }
 
 // An instruction, up to its writes: all that it sees are the registers, PC, SR and the view of memory.
-fn attempt(r: &mut [u32; 20], mem: &[u8], f: Flow) -> Tried
+fn attempt(r: &mut [u32; SLOTS], mem: &[u8], f: Flow) -> Tried
     ensures { λ t. ⌜ record { r = now (r .exit); t = t } ≡ attempt (now (r .entry)) (view-of (now (mem .entry))) f ⌝ }
 {
     let w = bus::next_word(mem, f);
@@ -58,12 +59,12 @@ fn attempt(r: &mut [u32; 20], mem: &[u8], f: Flow) -> Tried
 }
 
 // The write of a plan that has one.
-fn commit(mem: &mut [u8], log: &mut [u64], r: &[u32; 20], p: Plan) -> usize
+fn commit(mem: &mut [u8], log: &mut [u64], r: &[u32; SLOTS], p: Plan) -> usize
     requires { ⌜ LogOk (now mem) (now log) 0 × (64 ≤ length (now log)) ⌝ }
     ensures { λ _. ⌜ now (mem .exit) ≡ commit (now (mem .entry)) (now (r .entry)) p ⌝ }
     ensures { λ k. ⌜ Noted (now (mem .entry)) (now (log .entry)) 0 64 (now (mem .exit)) (now (log .exit)) k ⌝ }
 {
-    let one = p.write < 3;
+    let one = p.write < codes::NO_WRITE;
     if one {
         return store::store_sized(mem, log, 0, p.at, p.write, p.value);
     }
@@ -74,40 +75,40 @@ fn commit(mem: &mut [u8], log: &mut [u64], r: &[u32; 20], p: Plan) -> usize
 fn trap_of(p: Plan) -> u32
     ensures { λ q. ⌜ q ≡ trap-of p ⌝ }
 {
-    let some = p.vector < 256;
+    let some = p.vector < codes::STOP;
     if some {
         return p.vector;
     }
-    0
+    codes::NO_VECTOR
 }
 
 // The exception of a vector, and nothing for vector 0.
-fn take_trap(s: &mut [u32; 20], mem: &mut [u8], log: &mut [u64], n: usize, vec: u32) -> Ended
+fn take_trap(s: &mut [u32; SLOTS], mem: &mut [u8], log: &mut [u64], n: usize, vec: u32) -> Ended
     requires { ⌜ LogOk (now mem) (now log) n × (n + 6 ≤ length (now log)) ⌝ }
     ensures { λ _. ⌜ now (s .exit) ≡ take-trap (now (s .entry)) (now (mem .entry)) vec .s ⌝ }
     ensures { λ _. ⌜ now (mem .exit) ≡ take-trap (now (s .entry)) (now (mem .entry)) vec .m ⌝ }
     ensures { λ e. ⌜ e .event ≡ take-trap (now (s .entry)) (now (mem .entry)) vec .event ⌝ }
     ensures { λ e. ⌜ Noted (now (mem .entry)) (now (log .entry)) n 6 (now (mem .exit)) (now (log .exit)) (e .n) ⌝ }
 {
-    let some = 0 < vec;
+    let some = codes::NO_VECTOR < vec;
     if some {
-        let sr = exception::supervisor_sr(s[18]);
+        let sr = exception::supervisor_sr(s[codes::SR]);
         return exception::exception(s, mem, log, n, vec, sr);
     }
-    Ended { n, event: 0 }
+    Ended { n, event: codes::NO_EVENT }
 }
 
 // The vector of the trace that follows, or 0: none after a refused instruction or a halt.
 fn traced(vec: u32, trace: bool, event: u32) -> u32
     ensures { λ r. ⌜ r ≡ traced vec trace event ⌝ }
 {
-    let refused = (vec == 4) | (vec == 8) | (vec == 10) | (vec == 11);
-    let halted = event == 257;
-    bits::bit(trace & !refused & !halted) * 9
+    let refused = (vec == codes::ILLEGAL_WORD) | (vec == codes::PRIVILEGE) | (vec == codes::LINE1010) | (vec == codes::LINE1111);
+    let halted = event == codes::HALT_EVENT;
+    bits::bit(trace & !refused & !halted) * codes::TRACING
 }
 
 // A trap, and the trace after it: the first event counts.
-fn both(s: &mut [u32; 20], mem: &mut [u8], log: &mut [u64], vec: u32, trace: bool) -> Ended
+fn both(s: &mut [u32; SLOTS], mem: &mut [u8], log: &mut [u64], vec: u32, trace: bool) -> Ended
     requires { ⌜ LogOk (now mem) (now log) 0 × (12 ≤ length (now log)) ⌝ }
     ensures { λ _. ⌜ now (s .exit) ≡ both (now (s .entry)) (now (mem .entry)) vec trace .s ⌝ }
     ensures { λ _. ⌜ now (mem .exit) ≡ both (now (s .entry)) (now (mem .entry)) vec trace .m ⌝ }
@@ -116,7 +117,7 @@ fn both(s: &mut [u32; 20], mem: &mut [u8], log: &mut [u64], vec: u32, trace: boo
 {
     let a = take_trap(s, mem, log, 0, vec);
     let b = take_trap(s, mem, log, a.n, traced(vec, trace, a.event));
-    let first = a.event == 0;
+    let first = a.event == codes::NO_EVENT;
     if first {
         return b;
     }
@@ -129,8 +130,8 @@ fn both(s: &mut [u32; 20], mem: &mut [u8], log: &mut [u64], vec: u32, trace: boo
 // The end of an instruction that met no fault: its write and the trace; or, where it writes nothing, its trap and the trace. r has the
 // registers, and then the slots; s the slots before it. MOVEM's write reads the registers, so it comes before they are slots again.
 fn carry_out(
-    r: &mut [u32; 20],
-    s: &[u32; 20],
+    r: &mut [u32; SLOTS],
+    s: &[u32; SLOTS],
     mem: &mut [u8],
     log: &mut [u64],
     p: Plan,
@@ -142,12 +143,12 @@ fn carry_out(
     ensures { λ e. ⌜ e .event ≡ carry-out (settle (now (s .entry)) (now (r .entry)) p) (now (mem .entry)) (now (r .entry)) p trace .event ⌝ }
     ensures { λ e. ⌜ Noted (now (mem .entry)) (now (log .entry)) 0 70 (now (mem .exit)) (now (log .exit)) (e .n) ⌝ }
 {
-    let none = p.write == 3;
+    let none = p.write == codes::NO_WRITE;
     if none {
         bank::settle(r, s, p);
-        let quiet = (p.vector == 0) & !trace;
+        let quiet = (p.vector == codes::NO_VECTOR) & !trace;
         if quiet {
-            return Ended { n: 0, event: 0 };
+            return Ended { n: 0, event: codes::NO_EVENT };
         }
         let vec = trap_of(p);
         return both(r, mem, log, vec, trace);
@@ -155,13 +156,13 @@ fn carry_out(
     let n = commit(mem, log, r, p);
     bank::settle(r, s, p);
     if trace {
-        return take_trap(r, mem, log, n, 9);
+        return take_trap(r, mem, log, n, codes::TRACING);
     }
-    Ended { n, event: 0 }
+    Ended { n, event: codes::NO_EVENT }
 }
 
 // The end of an instruction: r has the registers then, s the slots before it. One that faults keeps nothing of its work.
-fn conclude(r: &mut [u32; 20], s: &[u32; 20], mem: &mut [u8], log: &mut [u64], t: Tried) -> Ended
+fn conclude(r: &mut [u32; SLOTS], s: &[u32; SLOTS], mem: &mut [u8], log: &mut [u64], t: Tried) -> Ended
     requires { ⌜ LogOk (now mem) (now log) 0 × (70 ≤ length (now log)) ⌝ }
     ensures { λ _. ⌜ now (r .exit) ≡ conclude (now (s .entry)) (now (mem .entry)) (now (r .entry)) t .s ⌝ }
     ensures { λ _. ⌜ now (mem .exit) ≡ conclude (now (s .entry)) (now (mem .entry)) (now (r .entry)) t .m ⌝ }
@@ -172,7 +173,7 @@ fn conclude(r: &mut [u32; 20], s: &[u32; 20], mem: &mut [u8], log: &mut [u64], t
     let f = p.flow;
     let fine = f.bad == 0;
     if fine {
-        let trace = bank::tracing(s[18]);
+        let trace = bank::tracing(s[codes::SR]);
         return carry_out(r, s, mem, log, p, trace);
     }
     let before = *s;
@@ -181,7 +182,7 @@ fn conclude(r: &mut [u32; 20], s: &[u32; 20], mem: &mut [u8], log: &mut [u64], t
 }
 
 // One instruction. The slots before it are lent a second time, as they were.
-fn instruction(s: &mut [u32; 20], before: &[u32; 20], mem: &mut [u8], log: &mut [u64]) -> Ended
+fn instruction(s: &mut [u32; SLOTS], before: &[u32; SLOTS], mem: &mut [u8], log: &mut [u64]) -> Ended
     requires { ⌜ LogOk (now mem) (now log) 0 × (70 ≤ length (now log)) ⌝ }
     requires { ⌜ now before ≡ now s ⌝ }
     ensures { λ _. ⌜ now (s .exit) ≡ instruction (now (s .entry)) (now (mem .entry)) .s ⌝ }
@@ -189,36 +190,36 @@ fn instruction(s: &mut [u32; 20], before: &[u32; 20], mem: &mut [u8], log: &mut 
     ensures { λ e. ⌜ e .event ≡ instruction (now (s .entry)) (now (mem .entry)) .event ⌝ }
     ensures { λ e. ⌜ Noted (now (mem .entry)) (now (log .entry)) 0 70 (now (mem .exit)) (now (log .exit)) (e .n) ⌝ }
 {
-    let sr = s[18];
-    let pc = s[17];
+    let sr = s[codes::SR];
+    let pc = s[codes::PC];
     bank::bank(s);
     let t = attempt(s, mem, exception::fresh(pc, sr));
     conclude(s, before, mem, log, t)
 }
 
 // An interrupt: the mask becomes its level.
-fn interrupt(s: &mut [u32; 20], mem: &mut [u8], log: &mut [u64], level: u32, vector: u32) -> Ended
+fn interrupt(s: &mut [u32; SLOTS], mem: &mut [u8], log: &mut [u64], level: u32, vector: u32) -> Ended
     requires { ⌜ LogOk (now mem) (now log) 0 × (6 ≤ length (now log)) ⌝ }
     ensures { λ _. ⌜ now (s .exit) ≡ interrupt (now (s .entry)) (now (mem .entry)) level vector .s ⌝ }
     ensures { λ _. ⌜ now (mem .exit) ≡ interrupt (now (s .entry)) (now (mem .entry)) level vector .m ⌝ }
     ensures { λ e. ⌜ e .event ≡ interrupt (now (s .entry)) (now (mem .entry)) level vector .event ⌝ }
     ensures { λ e. ⌜ Noted (now (mem .entry)) (now (log .entry)) 0 6 (now (mem .exit)) (now (log .exit)) (e .n) ⌝ }
 {
-    let sr = interrupt_sr(s[18], level);
+    let sr = interrupt_sr(s[codes::SR], level);
     exception::exception(s, mem, log, 0, vector, sr)
 }
 
 fn interrupt_sr(sr: u32, level: u32) -> u32
     ensures { λ r. ⌜ r ≡ interrupt-sr sr level ⌝ }
 {
-    8192 + level % 8 * 256 + sr % 256
+    codes::SUPERVISOR + level % 8 * codes::MASK + sr % codes::MASK
 }
 
 // One whole step with its request, the slots before it lent a second time: an interrupt that is taken, or nothing where the machine is
 // stopped, or one instruction.
 pub fn one_step(
-    s: &mut [u32; 20],
-    before: &[u32; 20],
+    s: &mut [u32; SLOTS],
+    before: &[u32; SLOTS],
     mem: &mut [u8],
     log: &mut [u64],
     level: u32,
@@ -231,14 +232,14 @@ pub fn one_step(
     ensures { λ e. ⌜ e .event ≡ one-step (now (s .entry)) (now (mem .entry)) level vector .event ⌝ }
     ensures { λ e. ⌜ Noted (now (mem .entry)) (now (log .entry)) 0 70 (now (mem .exit)) (now (log .exit)) (e .n) ⌝ }
 {
-    let mask = s[18] / 256 % 8;
+    let mask = s[codes::SR] / codes::MASK % 8;
     let taken = (level == 7) | (mask < level);
     if taken {
         return interrupt(s, mem, log, level, vector);
     }
-    let running = s[19] == 0;
+    let running = s[codes::MODE] == codes::RUNNING;
     if running {
         return instruction(s, before, mem, log);
     }
-    Ended { n: 0, event: 0 }
+    Ended { n: 0, event: codes::NO_EVENT }
 }

@@ -1,6 +1,6 @@
 // lib.rt - the puts of a step: what stood at each place is noted in the touch log, then the new bytes are put.
 // Means: put-byte, put-word, put-long, put-sized of bus; Noted of touch.  Laws: proofs/StoreLaws.antt.
-// Uses: touch, bus, bits, record, numbers.  Source: [01 The journal], [01 step 6].
+// Uses: codes, touch, bus, bits, record, numbers.  Source: [01 The journal], [01 step 6].
 use touch::above;
 use touch::write_above;
 use touch::write_byte;
@@ -17,7 +17,7 @@ pub fn store_byte(memory: &mut [u8], log: &mut [u64], n: usize, a: u32, v: u32) 
     ensures memory { λ _. ⌜ now (memory .exit) ≡ put-byte (now (memory .entry)) a v ⌝ }
     ensures noted { λ r. ⌜ Noted (now (memory .entry)) (now (log .entry)) n 1 (now (memory .exit)) (now (log .exit)) r ⌝ }
 {
-    let p = a % 16777216;
+    let p = a % codes::ADDRESSES;
     if (p as usize) < memory.len() {
         return write_byte(memory, log, n, p, (v % 256) as u8);
     }
@@ -50,7 +50,7 @@ pub fn store_long(memory: &mut [u8], log: &mut [u64], n: usize, a: u32, v: u32) 
     ensures memory { λ _. ⌜ now (memory .exit) ≡ put-long (now (memory .entry)) a v ⌝ }
     ensures noted { λ r. ⌜ Noted (now (memory .entry)) (now (log .entry)) n 4 (now (memory .exit)) (now (log .exit)) r ⌝ }
 {
-    let p = a % 16777216;
+    let p = a % codes::ADDRESSES;
     if ((p as usize) + 3 < memory.len()) & above(log, n, p) {
         word_above(memory, log, n, p, v / 65536);
         word_above(memory, log, n + 2, p + 2, v);

@@ -1,24 +1,29 @@
 // lib.rt - system control: immediates and moves to and from SR, CCR and USP, RESET, RTE, STOP, TRAP, TRAPV, CHK.
 // Means: specs/System.antt.  Laws: proofs/SystemLaws.antt.
-// Uses: bits, flags, alu, bus, operand, plan.  Source: [003 3.9], [003 B], [01 step 2] to [01 step 7]. Privilege is the caller's.
+// Uses: codes, bits, flags, alu, bus, operand, plan.  Source: [003 3.9], [003 B], [01 step 2] to [01 step 7]. Privilege is the caller's.
 ghost use mathlib.Core.Path.{_≡_};
 ghost use Prim.Native.Nat.{_+_, _%_};
 ghost use Rattle.bus.specs.Bus.{view-of};
 ghost use Rattle.plan.specs.Plans.{Done, nothing};
 ghost use Rattle.system.specs.System.{logic, immediate-to-ccr-plan, immediate-to-sr-plan, move-from-sr, move-to-ccr, move-to-sr, register-moved, return-exception, stop-plan, trap-plan, trap-overflow-plan, check-bounds};
+use codes::SLOTS;
 use bus::Flow;
 use flags::Flagged;
 use plan::Plan;
 
-// AND, OR and EOR, as 0, 1 and 2.
+// AND, OR, and EOR as the last.
 fn logic(which: u32, a: u32, b: u32) -> u32
     ensures { λ r. ⌜ r ≡ logic which a b ⌝ }
 {
-    match which {
-        0 => a & b,
-        1 => a | b,
-        _ => a ^ b,
+    let and = which == codes::AND;
+    let or = which == codes::OR;
+    if and {
+        return a & b;
     }
+    if or {
+        return a | b;
+    }
+    a ^ b
 }
 
 // ANDI, ORI, EORI to CCR.
@@ -40,48 +45,48 @@ pub fn immediate_to_sr(which: u32, mem: &[u8], f: Flow) -> Plan
 }
 
 // MOVE from SR. The flags stay as they are.
-pub fn move_from_sr(r: &mut [u32; 20], mem: &[u8], op: u32, f: Flow) -> Plan
+pub fn move_from_sr(r: &mut [u32; SLOTS], mem: &[u8], op: u32, f: Flow) -> Plan
     ensures { λ p. ⌜ record { r = now (r .exit); p = p } ≡ move-from-sr (now (r .entry)) (view-of (now (mem .entry))) op f ⌝ }
 {
-    let b = operand::modify(r, mem, op / 8 % 8, op % 8, 1, f);
+    let b = operand::modify(r, mem, op / 8 % 8, op % 8, codes::WORD, f);
     let q = b.q;
     let a = Flagged { value: f.sr, ccr: f.sr };
-    plan::finish(r, q, 1, a)
+    plan::finish(r, q, codes::WORD, a)
 }
 
 // MOVE to CCR.
-pub fn move_to_ccr(r: &mut [u32; 20], mem: &[u8], op: u32, f: Flow) -> Plan
+pub fn move_to_ccr(r: &mut [u32; SLOTS], mem: &[u8], op: u32, f: Flow) -> Plan
     ensures { λ p. ⌜ record { r = now (r .exit); p = p } ≡ move-to-ccr (now (r .entry)) (view-of (now (mem .entry))) op f ⌝ }
 {
-    let w = operand::source(r, mem, op / 8 % 8, op % 8, 1, f);
+    let w = operand::source(r, mem, op / 8 % 8, op % 8, codes::WORD, f);
     let g = w.flow;
     plan::nothing(plan::flagged(g, w.value))
 }
 
 // MOVE to SR.
-pub fn move_to_sr(r: &mut [u32; 20], mem: &[u8], op: u32, f: Flow) -> Plan
+pub fn move_to_sr(r: &mut [u32; SLOTS], mem: &[u8], op: u32, f: Flow) -> Plan
     ensures { λ p. ⌜ record { r = now (r .exit); p = p } ≡ move-to-sr (now (r .entry)) (view-of (now (mem .entry))) op f ⌝ }
 {
-    let w = operand::source(r, mem, op / 8 % 8, op % 8, 1, f);
+    let w = operand::source(r, mem, op / 8 % 8, op % 8, codes::WORD, f);
     let g = w.flow;
     plan::nothing(bus::with_sr(g, w.value))
 }
 
 // MOVE An,USP.
-pub fn move_to_usp(r: &mut [u32; 20], op: u32, f: Flow) -> Plan
+pub fn move_to_usp(r: &mut [u32; SLOTS], op: u32, f: Flow) -> Plan
     ensures { λ p. ⌜ record { r = now (r .exit); p = p } ≡ register-moved 16 (8 + op % 8) (now (r .entry)) f ⌝ }
 {
-    let a = operand::get(r, 8 + op % 8);
-    operand::put(r, 16, a);
+    let a = operand::get(r, codes::A0 + op % 8);
+    operand::put(r, codes::USER_STACK, a);
     plan::nothing(f)
 }
 
 // MOVE USP,An.
-pub fn move_from_usp(r: &mut [u32; 20], op: u32, f: Flow) -> Plan
+pub fn move_from_usp(r: &mut [u32; SLOTS], op: u32, f: Flow) -> Plan
     ensures { λ p. ⌜ record { r = now (r .exit); p = p } ≡ register-moved (8 + op % 8) 16 (now (r .entry)) f ⌝ }
 {
-    let a = operand::get(r, 16);
-    operand::put(r, 8 + op % 8, a);
+    let a = operand::get(r, codes::USER_STACK);
+    operand::put(r, codes::A0 + op % 8, a);
     plan::nothing(f)
 }
 
@@ -93,12 +98,12 @@ pub fn reset_devices(f: Flow) -> Plan
 }
 
 // RTE. The jump comes before SR is written.
-pub fn return_exception(r: &mut [u32; 20], mem: &[u8], op: u32, f: Flow) -> Plan
+pub fn return_exception(r: &mut [u32; SLOTS], mem: &[u8], op: u32, f: Flow) -> Plan
     ensures { λ p. ⌜ record { r = now (r .exit); p = p } ≡ return-exception (now (r .entry)) (view-of (now (mem .entry))) op f ⌝ }
 {
-    let s = operand::source(r, mem, 3, 7, 1, f);
+    let s = operand::source(r, mem, codes::POSTINCREMENT, codes::STACK_POINTER, codes::WORD, f);
     let g = s.flow;
-    let t = operand::source(r, mem, 3, 7, 2, g);
+    let t = operand::source(r, mem, codes::POSTINCREMENT, codes::STACK_POINTER, codes::LONG, g);
     let h = t.flow;
     plan::nothing(bus::with_sr(plan::jump(h, t.value), s.value))
 }
@@ -109,18 +114,18 @@ pub fn stop(mem: &[u8], f: Flow) -> Plan
 {
     let w = bus::next_word(mem, f);
     let g = w.flow;
-    let supervisor = w.value / 8192 % 2 == 1;
+    let supervisor = w.value / codes::SUPERVISOR % 2 == 1;
     if supervisor {
         return plan::stopping(bus::with_sr(g, w.value));
     }
-    plan::refusing(8, bits::minus(f.pc, 2), g)
+    plan::refusing(codes::PRIVILEGE, bits::minus(f.pc, 2), g)
 }
 
 // TRAP.
 pub fn trap(op: u32, f: Flow) -> Plan
     ensures { λ p. ⌜ p ≡ trap-plan op f ⌝ }
 {
-    plan::trapping(32 + op % 16, f)
+    plan::trapping(codes::FIRST_TRAP + op % 16, f)
 }
 
 // TRAPV.
@@ -129,22 +134,22 @@ pub fn trap_overflow(f: Flow) -> Plan
 {
     let over = flags::v_of(f.sr);
     if over {
-        return plan::trapping(7, f);
+        return plan::trapping(codes::OVERFLOW, f);
     }
     plan::nothing(f)
 }
 
 // CHK.
-pub fn check_bounds(r: &mut [u32; 20], mem: &[u8], op: u32, f: Flow) -> Plan
+pub fn check_bounds(r: &mut [u32; SLOTS], mem: &[u8], op: u32, f: Flow) -> Plan
     ensures { λ p. ⌜ record { r = now (r .exit); p = p } ≡ check-bounds (now (r .entry)) (view-of (now (mem .entry))) op f ⌝ }
 {
-    let w = operand::source(r, mem, op / 8 % 8, op % 8, 1, f);
+    let w = operand::source(r, mem, op / 8 % 8, op % 8, codes::WORD, f);
     let g = w.flow;
     let a = alu::check(operand::get(r, op / 512 % 8), w.value, f.sr);
     let h = plan::flagged(g, a.ccr);
     let outside = a.value == 1;
     if outside {
-        return plan::trapping(6, h);
+        return plan::trapping(codes::OUT_OF_BOUNDS, h);
     }
     plan::nothing(h)
 }

@@ -5,15 +5,16 @@ use native.Mathlib.Nat.{le-antisymm}
 use native.Mathlib.Numerals.{add-one}
 use native.Mathlib.Omega.{arith}
 use lib.ListN.{set}
+use Rattle.codes.specs.Codes.{Slots}
 use Rattle.block.proofs.BlockLaws.{filled, read-whole}
 use Rattle.block.proofs.slots_in.Statement.{statement}
 use Rattle.block.proofs.slots_in.Tie as tie
 
 abbrev Inv-loop : tie.InvT-loop
-Inv-loop block s₀ i₀ s i = (i ≤ 20) × (s ≡ filled block i)
+Inv-loop block s₀ i₀ s i = (i ≤ Slots) × (s ≡ filled block i)
 
 abbrev μ-loop : tie.MeasureT-loop
-μ-loop block s₀ i₀ s i = 20 - i
+μ-loop block s₀ i₀ s i = Slots - i
 
 loop-holds : tie.Need-loop-holds Inv-loop μ-loop
 loop-holds c = (zero-le, refl)

@@ -1,43 +1,36 @@
 use denote.Ref.{now}
-use Rattle.machine.proofs.CallLaws.{valid-lent, log-ready, log-done, record-fits, taken-slots, taken-memory, taken-journal, taken-answer, taken-goes-on}
+use Rattle.machine.proofs.CallLaws.{valid-lent, log-ready, log-done, record-fits, taken}
+use Rattle.machine.proofs.ValidLaws.{Valid}
 use borrow.Author.Needs.{needs}
 use Rattle.machine.proofs.step_taken.Statement.{statement}
 use Rattle.machine.proofs.step_taken.Tie as tie
 
+-- what is known after the step of what was lent
+module _ (o : tie.After-one-step) where
+  abbrev z : tie.Start
+  z = o .before .before .before .before .before .before .before .before .before .before .before .before .before
+
+  valid : Valid (now (z .args .slots)) (now (z .args .memory))
+  valid =
+      let b = o .before .before .before .before .before .before in
+      let t = b .before .before .twenty .ensures in
+      valid-lent _ _ (t .0) (t .1) (b .bytes .ensures .1) (z .pre .0) (z .pre .3)
+
 one-step-requires : tie.Need-one-step-requires
-one-step-requires c κs = let z = c .before .before .before .before .before .before .before .before .before .before .before .before in (log-ready _ _ (z .pre .0) (z .pre .2), search needs)
+one-step-requires c κs =
+    let z = c .before .before .before .before .before .before .before .before .before .before .before .before in
+    (log-ready _ _ (z .pre .0) (z .pre .2), search needs)
 
 put-record-requires : tie.Need-put-record-requires
 put-record-requires c κs =
     let o = c .before .before .before .before .before .before .before .before .before in
-    let z = o .before .before .before .before .before .before .before .before .before .before .before .before .before in
-    let w = o .before .before .before .before .before .before .before .before .twenty .ensures in
-    let b = o .before .before .before .before .before .before .bytes .ensures in
-    let v = valid-lent _ _ (w .0) (w .1) (b .1) (z .pre .0) (z .pre .3) in
     let e = o .one-step .ensures in
-    (log-done _ _ _ _ _ (e .1 .1 .1), record-fits _ _ (now (z .args .journal)) _ _ _ _ v (z .pre .1) _ _ _ _ _ (e .0) (e .1 .0) (e .1 .1 .0) (e .1 .1 .1))
+    (log-done _ _ _ _ _ (e .1 .1 .1), record-fits _ _ (now (z o .args .journal)) _ _ _ _ (valid o) (z o .pre .1) _ _ _ _ _ e)
 
 returns : tie.Need-returns
 returns c =
     let o = c .before .before .before .before .before .before .before .before .before .before .before .before in
-    let z = o .before .before .before .before .before .before .before .before .before .before .before .before .before in
-    let w = o .before .before .before .before .before .before .before .before .twenty .ensures in
-    let b = o .before .before .before .before .before .before .bytes .ensures in
-    let v = valid-lent _ _ (w .0) (w .1) (b .1) (z .pre .0) (z .pre .3) in
-    let e = o .one-step .ensures in
-    let r = c .before .before .put-record .ensures in (
-      taken-slots _ _ (now (z .args .journal)) _ _ _ _ v (z .pre .1) _ _ _ _ _ (e .0) (e .1 .0) (e .1 .1 .0) (e .1 .1 .1),
-      (
-        taken-memory _ _ (now (z .args .journal)) _ _ _ _ v (z .pre .1) _ _ _ _ _ (e .0) (e .1 .0) (e .1 .1 .0) (e .1 .1 .1),
-        (
-          taken-journal _ _ (now (z .args .journal)) _ _ _ _ v (z .pre .1) _ _ _ _ _ (e .0) (e .1 .0) (e .1 .1 .0) (e .1 .1 .1) _ _ (r .0) (r .1),
-          (
-            taken-answer _ _ (now (z .args .journal)) _ _ _ _ v (z .pre .1) _ _ _ _ _ (e .0) (e .1 .0) (e .1 .1 .0) (e .1 .1 .1) _ _ (r .0) (r .1),
-            taken-goes-on _ _ (now (z .args .journal)) _ _ _ _ v (z .pre .1) _ _ _ _ _ (e .0) (e .1 .0) (e .1 .1 .0) (e .1 .1 .1) _ _ (r .0) (r .1),
-          ),
-        ),
-      ),
-    )
+    taken _ _ _ _ _ _ _ (valid o) (z o .pre .1) _ _ _ _ _ (o .one-step .ensures) _ _ (c .before .before .put-record .ensures)
 
 pub step-taken-spec : {M : Type 1} → statement M
 step-taken-spec =

@@ -1,13 +1,14 @@
 use Prim.Native.Nat.{_≤_, _-_}
 use borrow.Author.Needs.{needs}
+use Rattle.codes.specs.Codes.{Slots}
 use Rattle.listing.proofs.setting.put_slots.Statement.{statement}
 use Rattle.listing.proofs.setting.put_slots.Tie as tie
 
 abbrev Inv-loop : tie.InvT-loop
-Inv-loop list slots₀ good₀ k₀ slots good k = k ≤ 20
+Inv-loop list slots₀ good₀ k₀ slots good k = k ≤ Slots
 
 abbrev μ-loop : tie.MeasureT-loop
-μ-loop list slots₀ good₀ k₀ slots good k = 20 - k
+μ-loop list slots₀ good₀ k₀ slots good k = Slots - k
 
 pub put-slots-spec : {M : Type 1} → statement M
 put-slots-spec =

@@ -1,13 +1,14 @@
 use Prim.Native.Nat.{_≤_, _-_}
 use borrow.Author.Needs.{needs}
+use Rattle.codes.specs.Codes.{Slots}
 use Rattle.listing.proofs.setting.same_slots.Statement.{statement}
 use Rattle.listing.proofs.setting.same_slots.Tie as tie
 
 abbrev Inv-loop : tie.InvT-loop
-Inv-loop a b d₀ i₀ d i = i ≤ 20
+Inv-loop a b d₀ i₀ d i = i ≤ Slots
 
 abbrev μ-loop : tie.MeasureT-loop
-μ-loop a b d₀ i₀ d i = 20 - i
+μ-loop a b d₀ i₀ d i = Slots - i
 
 pub same-slots-spec : {M : Type 1} → statement M
 same-slots-spec =
