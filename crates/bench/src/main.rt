@@ -7,7 +7,6 @@
 // input, or the file of an `image FILE` before the counts; `memory BYTES` and `journal BYTES` before them say how much
 // is lent: else 65,536 bytes, and 1,048,576. A memory above 65,536 bytes needs a stack of 64 MiB, as `./run` gives it.
 // An argument that is none of these, or a length that cannot be lent, is told on standard error and passed over.
-use codes::SLOTS;
 mod asking;
 mod running;
 
@@ -15,6 +14,7 @@ use asking::ANY;
 use asking::Asked;
 use asking::IMAGE;
 use asking::NO_COUNT;
+use codes::SLOTS;
 use libc::STDIN_FILENO;
 use libc::STDOUT_FILENO;
 use running::HASHED;

@@ -1,13 +1,14 @@
 // running.rt - runs of many steps from a reset, with a journal that starts again when it is full.
 // Means: nothing; proved safe.
 // Uses: codes, machine.  Source: [01 Calls and what they give back]; the hash is FNV-1a of 32 bits.
+use codes::SLOTS;
+
 // no program reaches this address
 const STOP: u32 = 4294967295;
 
 const HASH_START: u32 = 2166136261;
 
 // how steps are run: with the journal's hash; alone; or each undone once and done again
-use codes::SLOTS;
 pub const HASHED: u32 = 0;
 
 pub const ALONE: u32 = 1;
@@ -117,7 +118,13 @@ fn undo_all(slots: &mut [u32; SLOTS], memory: &mut [u8], journal: &[u8], mark: u
 }
 
 // Where steps are to be undone: a run, and the undo of it.
-fn run_undone(p: Progress, slots: &mut [u32; SLOTS], memory: &mut [u8], journal: &mut [u8], way: u32) {
+fn run_undone(
+    p: Progress,
+    slots: &mut [u32; SLOTS],
+    memory: &mut [u8],
+    journal: &mut [u8],
+    way: u32,
+) {
     if way != UNDONE {
         return;
     }

@@ -5,8 +5,8 @@ ghost use mathlib.Core.Path.{_≡_};
 ghost use Rattle.bus.specs.Bus.{view-of};
 ghost use Rattle.plan.specs.Plans.{Done};
 ghost use Rattle.bitwise.specs.Bitwise.{shift-count, shift-place, shift-register, shift-memory, bit-size, bit-place, bit-dynamic, bit-static};
-use codes::SLOTS;
 use bus::Flow;
+use codes::SLOTS;
 use plan::Plan;
 
 // How many places: three bits of the operation word, or the data register that they name.

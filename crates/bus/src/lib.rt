@@ -27,7 +27,9 @@ pub fn failed(f: Flow, vec: u32, at: u32, k: u32) -> Flow
     Flow {
         pc: f.pc,
         sr: f.sr,
-        bad: at % codes::ADDRESSES * 256 + (k % 32 + f.sr / codes::SUPERVISOR % 2 * 4) * 4 + vec % 4,
+        bad: at % codes::ADDRESSES * 256
+            + (k % 32 + f.sr / codes::SUPERVISOR % 2 * 4) * 4
+            + vec % 4,
     }
 }
 
@@ -165,7 +167,10 @@ pub fn next_word(mem: &[u8], f: Flow) -> Fetched
     let w = read_word(mem, pc, codes::PROGRAM_READ, f);
     let g = w.flow;
     let h = with_pc(g, std::num::wrapping_add_u32(pc, 2));
-    Fetched { value: w.value, flow: h }
+    Fetched {
+        value: w.value,
+        flow: h,
+    }
 }
 
 pub fn next_long(mem: &[u8], f: Flow) -> Fetched

@@ -5,9 +5,9 @@ ghost use mathlib.Core.Path.{_≡_};
 ghost use Rattle.bus.specs.Bus.{view-of};
 ghost use Rattle.plan.specs.Plans.{Done, nothing};
 ghost use Rattle.control.specs.Control.{displacement, jump-when, counted, branch-plan, branch-subroutine, decrement-branch, set-condition, jump-plan, jump-subroutine, return-restore, return-subroutine};
-use codes::SLOTS;
 use bus::Fetched;
 use bus::Flow;
+use codes::SLOTS;
 use flags::Flagged;
 use plan::Plan;
 
@@ -130,9 +130,23 @@ pub fn no_operation(f: Flow) -> Plan
 pub fn return_restore(r: &mut [u32; SLOTS], mem: &[u8], op: u32, f: Flow) -> Plan
     ensures { λ p. ⌜ record { r = now (r .exit); p = p } ≡ return-restore (now (r .entry)) (view-of (now (mem .entry))) op f ⌝ }
 {
-    let c = operand::source(r, mem, codes::POSTINCREMENT, codes::STACK_POINTER, codes::WORD, f);
+    let c = operand::source(
+        r,
+        mem,
+        codes::POSTINCREMENT,
+        codes::STACK_POINTER,
+        codes::WORD,
+        f,
+    );
     let g = c.flow;
-    let t = operand::source(r, mem, codes::POSTINCREMENT, codes::STACK_POINTER, codes::LONG, g);
+    let t = operand::source(
+        r,
+        mem,
+        codes::POSTINCREMENT,
+        codes::STACK_POINTER,
+        codes::LONG,
+        g,
+    );
     let h = t.flow;
     plan::nothing(plan::flagged(plan::jump(h, t.value), c.value))
 }
@@ -141,7 +155,14 @@ pub fn return_restore(r: &mut [u32; SLOTS], mem: &[u8], op: u32, f: Flow) -> Pla
 pub fn return_subroutine(r: &mut [u32; SLOTS], mem: &[u8], op: u32, f: Flow) -> Plan
     ensures { λ p. ⌜ record { r = now (r .exit); p = p } ≡ return-subroutine (now (r .entry)) (view-of (now (mem .entry))) op f ⌝ }
 {
-    let t = operand::source(r, mem, codes::POSTINCREMENT, codes::STACK_POINTER, codes::LONG, f);
+    let t = operand::source(
+        r,
+        mem,
+        codes::POSTINCREMENT,
+        codes::STACK_POINTER,
+        codes::LONG,
+        f,
+    );
     let g = t.flow;
     plan::nothing(plan::jump(g, t.value))
 }

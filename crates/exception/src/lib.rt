@@ -7,8 +7,8 @@ ghost use lib.ListN.{getD, set, length};
 ghost use Rattle.bus.specs.Bus.{view-of};
 ghost use Rattle.touch.specs.Touch.{LogOk, Noted};
 ghost use Rattle.exception.specs.Exceptions.{fresh, small-room, small-frame, big-room, fault-access, fault-rest, big-frame, enter, exception, fault-taken, fault, supervisor-sr};
-use codes::SLOTS;
 use bus::Flow;
+use codes::SLOTS;
 
 // How an exception, or a step, ended: the entries of the touch log, and the event: none, 1 more than the vector taken first, or a
 // halt.
@@ -89,7 +89,10 @@ pub fn exception(
         };
     }
     s[codes::MODE] = codes::HALTED;
-    Ended { n, event: codes::HALT_EVENT }
+    Ended {
+        n,
+        event: codes::HALT_EVENT,
+    }
 }
 
 // Whether the fourteen bytes of a fault's frame can be written.
@@ -190,5 +193,8 @@ pub fn fault(
         return fault_taken(s, mem, log, n, a, bad, op, pc);
     }
     s[codes::MODE] = codes::HALTED;
-    Ended { n, event: codes::HALT_EVENT }
+    Ended {
+        n,
+        event: codes::HALT_EVENT,
+    }
 }

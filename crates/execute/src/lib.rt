@@ -6,8 +6,8 @@ ghost use Prim.Native.Nat.{ℕ, _+_, _*_, _%_, _/_, _<_, _≤_};
 ghost use Rattle.bus.specs.Bus.{view-of};
 ghost use Rattle.plan.specs.Plans.{Done};
 ghost use Rattle.execute.specs.Dispatch.{refused-plan, refused-kind, movement-kind, integer-kind, logical-kind, control-kind, system-kind, dispatch, as-user, execute};
-use codes::SLOTS;
 use bus::Flow;
+use codes::SLOTS;
 use decode::kinds;
 use plan::Plan;
 

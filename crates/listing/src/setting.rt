@@ -1,7 +1,6 @@
 // setting.rt - puts what a line lists into slots and bytes, and compares.
 // Means: nothing; proved safe.
 // Uses: codes, text.  Source: [ours], crates/vectors/README.md.
-use codes::SLOTS;
 use crate::text::NO_BYTE;
 use crate::text::NO_NUMBER;
 use crate::text::byte_at;
@@ -9,6 +8,7 @@ use crate::text::marks;
 use crate::text::number;
 use crate::text::piece;
 use crate::text::slot_number;
+use codes::SLOTS;
 
 fn put_byte(to: &mut [u8], at: usize, b: u32) -> bool {
     if to.len() <= at {

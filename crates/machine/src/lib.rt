@@ -96,7 +96,28 @@ pub fn reset(slots: &mut [u32; SLOTS], memory: &[u8]) -> u32
         *slots = n;
         return 0;
     }
-    let n = [0, 0, 0, 0, 0, 0, 0, 0, 0, 0, 0, 0, 0, 0, 0, 0, 0, 0, 0, codes::HALTED];
+    let n = [
+        0,
+        0,
+        0,
+        0,
+        0,
+        0,
+        0,
+        0,
+        0,
+        0,
+        0,
+        0,
+        0,
+        0,
+        0,
+        0,
+        0,
+        0,
+        0,
+        codes::HALTED,
+    ];
     *slots = n;
     1
 }

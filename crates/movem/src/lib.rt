@@ -9,8 +9,8 @@ ghost use Rattle.bus.specs.Bus.{view-of};
 ghost use Rattle.touch.specs.Touch.{LogOk, Noted};
 ghost use Rattle.movem.specs.Movem.{first-spot, next-spot, load-one, load-list, movem-to-registers, movem-down, movem-to-memory};
 ghost use Rattle.movem.specs.Movem.{room-way, room-one, room-list, block-room, mirrored-byte, mirrored, put-way, stored, byte-of, part-of, put-part, block-put};
-use codes::SLOTS;
 use bus::Flow;
+use codes::SLOTS;
 use plan::Plan;
 
 // How a list of 16 bits is walked, lowest bit first: the size of each part that it has, the list, the address of its first part,
@@ -133,7 +133,12 @@ fn movem_down(r: &mut [u32; SLOTS], list: u32, op: u32, f: Flow) -> Plan
     let a = operand::get(r, i);
     let n = ones_of(list);
     operand::put(r, i, bits::minus(a, n * 2 * (1 + op / 64 % 2)));
-    plan::writing(codes::BLOCK_DOWN + op / 64 % 2, a, list % 65536 + 65536 * i, f)
+    plan::writing(
+        codes::BLOCK_DOWN + op / 64 % 2,
+        a,
+        list % 65536 + 65536 * i,
+        f,
+    )
 }
 
 pub fn movem_to_memory(r: &mut [u32; SLOTS], mem: &[u8], op: u32, f: Flow) -> Plan
@@ -147,7 +152,12 @@ pub fn movem_to_memory(r: &mut [u32; SLOTS], mem: &[u8], op: u32, f: Flow) -> Pl
     }
     let q = operand::locate(r, mem, op / 8 % 8, op % 8, 1 + op / 64 % 2, g);
     let h = q.flow;
-    plan::writing(codes::BLOCK_UP + op / 64 % 2, q.at, l.value + 65536 * codes::NO_REGISTER, h)
+    plan::writing(
+        codes::BLOCK_UP + op / 64 % 2,
+        q.at,
+        l.value + 65536 * codes::NO_REGISTER,
+        h,
+    )
 }
 
 // A plan's block as its room is asked: upward, downward from A7, every other byte.

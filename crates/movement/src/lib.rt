@@ -8,9 +8,9 @@ ghost use Rattle.bus.specs.Bus.{view-of};
 ghost use Rattle.operand.specs.Operands.{Modify, get, put};
 ghost use Rattle.plan.specs.Plans.{Done};
 ghost use Rattle.movement.specs.Movement.{move-size, move-operands, move-data, move-address, move-quick, load-address, push-address, exchange, exchange-data, exchange-address, exchange-both, swap, link, unlink, every-other-word, every-other, movep-to-register, movep-to-memory};
-use codes::SLOTS;
 use bus::Fetched;
 use bus::Flow;
+use codes::SLOTS;
 use operand::Both;
 use operand::Operand;
 use plan::Plan;
@@ -51,7 +51,10 @@ fn move_operands(r: &mut [u32; SLOTS], mem: &[u8], op: u32, z: u32, f: Flow) -> 
         step: q.step,
         flow: wf,
     };
-    Both { value: w.value, q: d }
+    Both {
+        value: w.value,
+        q: d,
+    }
 }
 
 pub fn move_data(r: &mut [u32; SLOTS], mem: &[u8], op: u32, f: Flow) -> Plan
@@ -155,7 +158,11 @@ pub fn link(r: &mut [u32; SLOTS], mem: &[u8], op: u32, f: Flow) -> Plan
     let a = lowered(r);
     let v = operand::get(r, codes::A0 + op % 8);
     operand::put(r, codes::A0 + op % 8, a);
-    operand::put(r, codes::A7, std::num::wrapping_add_u32(a, bits::sign_word(w.value)));
+    operand::put(
+        r,
+        codes::A7,
+        std::num::wrapping_add_u32(a, bits::sign_word(w.value)),
+    );
     plan::writing(codes::LONG, a, v, g)
 }
 

@@ -1,10 +1,10 @@
 // lib.rt - four steps and four undos of a memory, each told in a line.
 // Means: nothing; proved safe. The lines are those of 01's small program.
 // Uses: codes, machine, io, libc.  Source: [01 Set down and proved].
+use codes::SLOTS;
 use libc::STDOUT_FILENO;
 
 // The steps that stand, and the mark.
-use codes::SLOTS;
 struct Standing {
     steps: u32,
     mark: usize,

@@ -6,9 +6,9 @@ ghost use Prim.Native.Nat.{ℕ, _+_, _*_, _%_, _/_, _<_, _≤_};
 ghost use lib.ListN.{getD, set};
 ghost use Rattle.bus.specs.Bus.{view-of};
 ghost use Rattle.operand.specs.Operands.{get, put, increment, in-register, in-memory, number, indirect, postincrement, predecrement, displaced, index-value, with-index, indexed, absolute-word, absolute-long, pc-displaced, pc-indexed, immediate, special, locate, load, put-low, operand-with-flow, source, target, modify};
-use codes::SLOTS;
 use bus::Fetched;
 use bus::Flow;
+use codes::SLOTS;
 
 // Where an operand lies, by its kind: the register `at`, memory at `at` (read by the kind of access), or the number `at` itself. `reg`
 // takes the value `step`, if it is a register. `flow` is where the instruction stands then.
@@ -173,7 +173,13 @@ fn absolute_word(mem: &[u8], f: Flow) -> Operand
 {
     let w = bus::next_word(mem, f);
     let g = w.flow;
-    in_memory(bits::sign_word(w.value), codes::DATA_READ, codes::NO_REGISTER, 0, g)
+    in_memory(
+        bits::sign_word(w.value),
+        codes::DATA_READ,
+        codes::NO_REGISTER,
+        0,
+        g,
+    )
 }
 
 fn absolute_long(mem: &[u8], f: Flow) -> Operand
@@ -205,7 +211,8 @@ fn pc_indexed(r: &[u32; SLOTS], mem: &[u8], f: Flow) -> Operand
     let pc = f.pc;
     let w = bus::next_word(mem, f);
     let g = w.flow;
-    in_memory(with_index(r, pc, w.value), codes::PROGRAM_READ, codes::NO_REGISTER, 0, g)
+    let a = with_index(r, pc, w.value);
+    in_memory(a, codes::PROGRAM_READ, codes::NO_REGISTER, 0, g)
 }
 
 pub fn immediate(mem: &[u8], z: u32, f: Flow) -> Operand

@@ -1,9 +1,9 @@
 // main.rt - 01's examples that are run and compared: ADD.B, the halt of $4AFC with an odd SSP, the journal's 535 and 536 bytes, budget 0.
 // Means: nothing; its stored output is 01's text, worked out by hand.
 // Uses: codes, machine, io.  Source: [01 Set down and proved].
+use codes::SLOTS;
 
 // Numbers on one line, with a space after each.
-use codes::SLOTS;
 fn show(n: u32) {
     io::print_decimal(1, n as u64);
     io::write_all(1, b" ");

@@ -4,8 +4,8 @@
 ghost use mathlib.Core.Path.{_≡_};
 ghost use Prim.Native.Nat.{ℕ, _+_, _*_, _%_, _/_, _<_, _≤_};
 ghost use Rattle.plan.specs.Plans.{Done, flagged, jump, nothing, trapping, refusing, stopping, writing, finish, push, quick};
-use codes::SLOTS;
 use bus::Flow;
+use codes::SLOTS;
 use flags::Flagged;
 use operand::Operand;
 

@@ -8,8 +8,8 @@ ghost use Rattle.bank.specs.Bank.{settle};
 ghost use Rattle.bus.specs.Bus.{view-of};
 ghost use Rattle.touch.specs.Touch.{LogOk, Noted};
 ghost use Rattle.step.specs.Steps.{plan-with-flow, checked, Attempt, attempt, commit, trap-of, take-trap, traced, both, carry-out, conclude, instruction, interrupt-sr, interrupt, one-step};
-use codes::SLOTS;
 use bus::Flow;
+use codes::SLOTS;
 use exception::Ended;
 use plan::Plan;
 
@@ -95,14 +95,20 @@ fn take_trap(s: &mut [u32; SLOTS], mem: &mut [u8], log: &mut [u64], n: usize, ve
         let sr = exception::supervisor_sr(s[codes::SR]);
         return exception::exception(s, mem, log, n, vec, sr);
     }
-    Ended { n, event: codes::NO_EVENT }
+    Ended {
+        n,
+        event: codes::NO_EVENT,
+    }
 }
 
 // The vector of the trace that follows, or 0: none after a refused instruction or a halt.
 fn traced(vec: u32, trace: bool, event: u32) -> u32
     ensures { λ r. ⌜ r ≡ traced vec trace event ⌝ }
 {
-    let refused = (vec == codes::ILLEGAL_WORD) | (vec == codes::PRIVILEGE) | (vec == codes::LINE1010) | (vec == codes::LINE1111);
+    let refused = (vec == codes::ILLEGAL_WORD)
+        | (vec == codes::PRIVILEGE)
+        | (vec == codes::LINE1010)
+        | (vec == codes::LINE1111);
     let halted = event == codes::HALT_EVENT;
     bits::bit(trace & !refused & !halted) * codes::TRACING
 }
@@ -148,7 +154,10 @@ fn carry_out(
         bank::settle(r, s, p);
         let quiet = (p.vector == codes::NO_VECTOR) & !trace;
         if quiet {
-            return Ended { n: 0, event: codes::NO_EVENT };
+            return Ended {
+                n: 0,
+                event: codes::NO_EVENT,
+            };
         }
         let vec = trap_of(p);
         return both(r, mem, log, vec, trace);
@@ -158,11 +167,20 @@ fn carry_out(
     if trace {
         return take_trap(r, mem, log, n, codes::TRACING);
     }
-    Ended { n, event: codes::NO_EVENT }
+    Ended {
+        n,
+        event: codes::NO_EVENT,
+    }
 }
 
 // The end of an instruction: r has the registers then, s the slots before it. One that faults keeps nothing of its work.
-fn conclude(r: &mut [u32; SLOTS], s: &[u32; SLOTS], mem: &mut [u8], log: &mut [u64], t: Tried) -> Ended
+fn conclude(
+    r: &mut [u32; SLOTS],
+    s: &[u32; SLOTS],
+    mem: &mut [u8],
+    log: &mut [u64],
+    t: Tried,
+) -> Ended
     requires { ⌜ LogOk (now mem) (now log) 0 × (70 ≤ length (now log)) ⌝ }
     ensures { λ _. ⌜ now (r .exit) ≡ conclude (now (s .entry)) (now (mem .entry)) (now (r .entry)) t .s ⌝ }
     ensures { λ _. ⌜ now (mem .exit) ≡ conclude (now (s .entry)) (now (mem .entry)) (now (r .entry)) t .m ⌝ }
@@ -182,7 +200,12 @@ fn conclude(r: &mut [u32; SLOTS], s: &[u32; SLOTS], mem: &mut [u8], log: &mut [u
 }
 
 // One instruction. The slots before it are lent a second time, as they were.
-fn instruction(s: &mut [u32; SLOTS], before: &[u32; SLOTS], mem: &mut [u8], log: &mut [u64]) -> Ended
+fn instruction(
+    s: &mut [u32; SLOTS],
+    before: &[u32; SLOTS],
+    mem: &mut [u8],
+    log: &mut [u64],
+) -> Ended
     requires { ⌜ LogOk (now mem) (now log) 0 × (70 ≤ length (now log)) ⌝ }
     requires { ⌜ now before ≡ now s ⌝ }
     ensures { λ _. ⌜ now (s .exit) ≡ instruction (now (s .entry)) (now (mem .entry)) .s ⌝ }
@@ -198,7 +221,13 @@ fn instruction(s: &mut [u32; SLOTS], before: &[u32; SLOTS], mem: &mut [u8], log:
 }
 
 // An interrupt: the mask becomes its level.
-fn interrupt(s: &mut [u32; SLOTS], mem: &mut [u8], log: &mut [u64], level: u32, vector: u32) -> Ended
+fn interrupt(
+    s: &mut [u32; SLOTS],
+    mem: &mut [u8],
+    log: &mut [u64],
+    level: u32,
+    vector: u32,
+) -> Ended
     requires { ⌜ LogOk (now mem) (now log) 0 × (6 ≤ length (now log)) ⌝ }
     ensures { λ _. ⌜ now (s .exit) ≡ interrupt (now (s .entry)) (now (mem .entry)) level vector .s ⌝ }
     ensures { λ _. ⌜ now (mem .exit) ≡ interrupt (now (s .entry)) (now (mem .entry)) level vector .m ⌝ }
@@ -241,5 +270,8 @@ pub fn one_step(
     if running {
         return instruction(s, before, mem, log);
     }
-    Ended { n: 0, event: codes::NO_EVENT }
+    Ended {
+        n: 0,
+        event: codes::NO_EVENT,
+    }
 }

@@ -6,8 +6,8 @@ ghost use Prim.Native.Nat.{_+_, _%_};
 ghost use Rattle.bus.specs.Bus.{view-of};
 ghost use Rattle.plan.specs.Plans.{Done, nothing};
 ghost use Rattle.system.specs.System.{logic, immediate-to-ccr-plan, immediate-to-sr-plan, move-from-sr, move-to-ccr, move-to-sr, register-moved, return-exception, stop-plan, trap-plan, trap-overflow-plan, check-bounds};
-use codes::SLOTS;
 use bus::Flow;
+use codes::SLOTS;
 use flags::Flagged;
 use plan::Plan;
 
@@ -50,7 +50,10 @@ pub fn move_from_sr(r: &mut [u32; SLOTS], mem: &[u8], op: u32, f: Flow) -> Plan
 {
     let b = operand::modify(r, mem, op / 8 % 8, op % 8, codes::WORD, f);
     let q = b.q;
-    let a = Flagged { value: f.sr, ccr: f.sr };
+    let a = Flagged {
+        value: f.sr,
+        ccr: f.sr,
+    };
     plan::finish(r, q, codes::WORD, a)
 }
 
@@ -101,9 +104,23 @@ pub fn reset_devices(f: Flow) -> Plan
 pub fn return_exception(r: &mut [u32; SLOTS], mem: &[u8], op: u32, f: Flow) -> Plan
     ensures { λ p. ⌜ record { r = now (r .exit); p = p } ≡ return-exception (now (r .entry)) (view-of (now (mem .entry))) op f ⌝ }
 {
-    let s = operand::source(r, mem, codes::POSTINCREMENT, codes::STACK_POINTER, codes::WORD, f);
+    let s = operand::source(
+        r,
+        mem,
+        codes::POSTINCREMENT,
+        codes::STACK_POINTER,
+        codes::WORD,
+        f,
+    );
     let g = s.flow;
-    let t = operand::source(r, mem, codes::POSTINCREMENT, codes::STACK_POINTER, codes::LONG, g);
+    let t = operand::source(
+        r,
+        mem,
+        codes::POSTINCREMENT,
+        codes::STACK_POINTER,
+        codes::LONG,
+        g,
+    );
     let h = t.flow;
     plan::nothing(bus::with_sr(plan::jump(h, t.value), s.value))
 }
