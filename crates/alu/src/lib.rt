@@ -4,8 +4,10 @@
 ghost use mathlib.Core.Path.{_≡_};
 ghost use Prim.Native.Nat.{_^_, _<_, _≤_};
 ghost use Rattle.bits.specs.Bits.{modulus};
-ghost use Rattle.alu.specs.Alu.{Of-size, sum, difference, concluded, continued, add, add-extended, subtract, subtract-extended, negate, negate-extended, compare};
-ghost use Rattle.alu.specs.Alu.{moved, and, or, exclusive-or, complement, extended, swapped, bit-number, bit-changed, bit-operation, tas, check};
+ghost use Rattle.alu.specs.Alu.{Of-size, sum, difference, concluded, continued, add, add-extended, subtract, subtract-extended, negate};
+ghost use Rattle.alu.specs.Alu.{negate-extended, compare};
+ghost use Rattle.alu.specs.Alu.{moved, and, or, exclusive-or, complement, extended, swapped, bit-number, bit-changed, bit-operation, tas};
+ghost use Rattle.alu.specs.Alu.{check};
 
 // A sum or difference: its value, whether that is negative, overflow, carry or borrow.
 pub struct Outcome {

@@ -10,7 +10,8 @@ use lib.Dec.{ltb, eqb}
 use Rattle.bits.specs.Bits.{plus, by-size}
 use Rattle.bus.specs.declared.Flow.{Flow}
 use Rattle.bus.specs.declared.Fetched.{Fetched}
-use Rattle.bus.specs.Bus.{View, view-of, pins, failed, with-pc, read-byte, read-word, read-long, read-sized, room, next-word, next-long, put-byte, put-word, put-long, put-sized}
+use Rattle.bus.specs.Bus.{View, view-of, pins, failed, with-pc, read-byte, read-word, read-long, read-sized, room, next-word, next-long}
+use Rattle.bus.specs.Bus.{put-byte, put-word, put-long, put-sized}
 
 abbrev fetched : ℕ → Flow → Fetched
 fetched v f = record { value = v; flow = f }

@@ -4,7 +4,8 @@
 ghost use mathlib.Core.Path.{_≡_};
 ghost use Prim.Native.Nat.{ℕ, _+_, _*_, _%_, _/_, _<_, _≤_};
 ghost use lib.ListN.{set};
-ghost use Rattle.bus.specs.Bus.{view-of, failed, with-pc, with-sr, read-byte, read-word, read-long, read-sized, room, next-word, next-long, put-byte, put-word, put-long, put-sized};
+ghost use Rattle.bus.specs.Bus.{view-of, failed, with-pc, with-sr, read-byte, read-word, read-long, read-sized, room, next-word, next-long};
+ghost use Rattle.bus.specs.Bus.{put-byte, put-word, put-long, put-sized};
 
 // Where an instruction stands: the next word's address, the status register, and the fault so far, 0 if none: the 24-bit address
 // of the access times 256, the information word times 4, and the vector, 2 or 3.

@@ -4,7 +4,8 @@
 ghost use mathlib.Core.Path.{_≡_};
 ghost use Rattle.bus.specs.Bus.{view-of};
 ghost use Rattle.plan.specs.Plans.{Done, nothing};
-ghost use Rattle.control.specs.Control.{displacement, jump-when, counted, branch-plan, branch-subroutine, decrement-branch, set-condition, jump-plan, jump-subroutine, return-restore, return-subroutine};
+ghost use Rattle.control.specs.Control.{displacement, jump-when, counted, branch-plan, branch-subroutine, decrement-branch, set-condition};
+ghost use Rattle.control.specs.Control.{jump-plan, jump-subroutine, return-restore, return-subroutine};
 use bus::Fetched;
 use bus::Flow;
 use codes::SLOTS;

@@ -2,7 +2,8 @@
 // Means: specs/Chain.antt.  Laws: proofs/ChainLaws.antt.
 // Uses: kinds, classes.  Source: [003 B].
 ghost use mathlib.Core.Path.{_≡_};
-ghost use Rattle.decode.specs.Chain.{immediate-sized, immediate-status, immediate, bit-static, bit-or-movep, line-0, movement, line-5, line-6, arithmetic, pair-or-memory, logical, line-14, line-8, line-12};
+ghost use Rattle.decode.specs.Chain.{immediate-sized, immediate-status, immediate, bit-static, bit-or-movep, line-0, movement, line-5, line-6};
+ghost use Rattle.decode.specs.Chain.{arithmetic, pair-or-memory, logical, line-14, line-8, line-12};
 use crate::classes;
 use crate::kinds;
 

@@ -15,7 +15,8 @@ use Rattle.bus.specs.declared.Fetched.{Fetched}
 use Rattle.bus.specs.Bus.{View, view-of, read-long, room, put-word, put-long}
 use Rattle.touch.specs.Touch.{LogOk, Noted}
 use Rattle.touch.proofs.TouchLaws.{noted-none, noted-then}
-use Rattle.exception.specs.Exceptions.{Stepped, fresh, supervisor-sr, halted, small-room, small-frame, big-room, fault-access, fault-rest, big-frame, enter, exception, fault-taken, fault}
+use Rattle.exception.specs.Exceptions.{Stepped, fresh, supervisor-sr, halted, small-room, small-frame, big-room, fault-access, fault-rest}
+use Rattle.exception.specs.Exceptions.{big-frame, enter, exception, fault-taken, fault}
 
 module _ (v : View) (a : ℕ) where
   pub small-room-is : (e g h : Flow) (b : ℕ) → e ≡ fresh 0 0 → g ≡ room v a 1 e → b ≡ plus a 2 → h ≡ room v b 2 g → eqb (h .bad) 0 ≡ small-room v a

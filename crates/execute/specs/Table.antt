@@ -6,12 +6,16 @@ use mathlib.Core.List.{List, [], _∷_}
 use Rattle.codes.specs.Codes.{IllegalWord, Line1010, Line1111, Add, Subtract, Compare, And, Or, ExclusiveOr, AddExtended, SubtractExtended}
 use Rattle.codes.specs.Codes.{AddDecimal, SubtractDecimal, Negate, NegateExtended, Complement, Clear, NegateDecimal, TestAndSet, Signed, Unsigned}
 use Rattle.decode.specs.Kinds as k
-use Rattle.movement.specs.Movement.{exchange-address, exchange-both, exchange-data, link, load-address, move-address, move-data, move-quick, movep-to-memory, movep-to-register, push-address, swap, unlink}
+use Rattle.movement.specs.Movement.{exchange-address, exchange-both, exchange-data, link, load-address, move-address, move-data, move-quick}
+use Rattle.movement.specs.Movement.{movep-to-memory, movep-to-register, push-address, swap, unlink}
 use Rattle.movem.specs.Movem.{movem-to-memory, movem-to-registers}
-use Rattle.integer.specs.Integer.{compare-address, compare-immediate, compare-memory, divide, extend, immediate-to, multiply, paired, quick-address, quick-to, test, to-address, to-memory, to-register, unary}
+use Rattle.integer.specs.Integer.{compare-address, compare-immediate, compare-memory, divide, extend, immediate-to, multiply, paired, quick-address}
+use Rattle.integer.specs.Integer.{quick-to, test, to-address, to-memory, to-register, unary}
 use Rattle.bitwise.specs.Bitwise.{bit-dynamic, bit-static, shift-memory, shift-register}
-use Rattle.control.specs.Control.{branch, branch-subroutine, decrement-branch, jump-subroutine, jump-to, no-operation, return-restore, return-subroutine, set-condition}
-use Rattle.system.specs.System.{check-bounds, immediate-to-ccr, immediate-to-sr, move-from-sr, move-from-usp, move-to-ccr, move-to-sr, move-to-usp, reset-devices, return-exception, stop, trap, trap-overflow}
+use Rattle.control.specs.Control.{branch, branch-subroutine, decrement-branch, jump-subroutine, jump-to, no-operation, return-restore}
+use Rattle.control.specs.Control.{return-subroutine, set-condition}
+use Rattle.system.specs.System.{check-bounds, immediate-to-ccr, immediate-to-sr, move-from-sr, move-from-usp, move-to-ccr, move-to-sr, move-to-usp}
+use Rattle.system.specs.System.{reset-devices, return-exception, stop, trap, trap-overflow}
 use Rattle.execute.specs.Dispatch.{Instruction, refused}
 
 -- each kind and its instruction  [003 3]

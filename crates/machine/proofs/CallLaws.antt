@@ -33,7 +33,8 @@ use Rattle.machine.specs.Loop.{GoesOn}
 use Rattle.machine.proofs.ValidLaws.{Valid, state-inv, fits-inv, state-fits-when, valid-after-step, record-room}
 use Rattle.machine.specs.Promises.{StepPromise, RunPromise, UndoPromise}
 use Rattle.machine.proofs.RefusalLaws.{step-inv, run-inv}
-use Rattle.machine.specs.Calls.{StepCall, RunCall, memory-fits, state-fits, reset-slots, refused-slots, reset-number, reset-call, step-number, step-taken, step-call, run-number, running, run-call, undo-number, undo-answer, undo-call}
+use Rattle.machine.specs.Calls.{StepCall, RunCall, memory-fits, state-fits, reset-slots, refused-slots, reset-number, reset-call, step-number}
+use Rattle.machine.specs.Calls.{step-taken, step-call, run-number, running, run-call, undo-number, undo-answer, undo-call}
 
 -- a refusal is given, or passed over, by its test or by the contrary of its test
 module _ {A : Type 0} (b : Bool) (x y r : A) where

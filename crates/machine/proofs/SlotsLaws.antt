@@ -12,7 +12,8 @@ use Rattle.record.proofs.KeptLaws.{length-restore}
 use Rattle.step.proofs.PlacesLaws.{pick-cases}
 use Rattle.step.proofs.SlotsLaws.{twenty-of-one-step}
 use Rattle.undo.specs.Undo.{Record, found, none, well-formed, undo-of}
-use Rattle.machine.specs.Calls.{StepCall, RunCall, UndoCall, step-number, step-taken, step-call, run-number, running, run-call, undo-number, undo-call}
+use Rattle.machine.specs.Calls.{StepCall, RunCall, UndoCall, step-number, step-taken, step-call, run-number, running, run-call, undo-number}
+use Rattle.machine.specs.Calls.{undo-call}
 use Rattle.machine.specs.History.{Machine, Call, step-of, run-of, undo-once, act}
 
 module _ (s m : List ℕ) (h : length s ≡ slot-limit) where

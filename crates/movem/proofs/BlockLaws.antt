@@ -19,7 +19,8 @@ use Rattle.touch.specs.Touch.{LogOk, Noted}
 use Rattle.touch.proofs.TouchLaws.{noted-none, noted-then}
 use Rattle.movem.specs.declared.Way.{Way}
 use Rattle.movem.specs.declared.Spot.{Spot}
-use Rattle.movem.specs.Movem.{listed, first-spot, next-spot, Walk, room-way, mirrored-byte, mirrored, put-way, stored, byte-of, part-of, put-part, put-one, block-put}
+use Rattle.movem.specs.Movem.{listed, first-spot, next-spot, Walk, room-way, mirrored-byte, mirrored, put-way, stored, byte-of, part-of}
+use Rattle.movem.specs.Movem.{put-part, put-one, block-put}
 use Rattle.movem.proofs.MovemLaws.{walk, walk-end}
 
 pub mirrored-is : (x a b : ℕ) → a ≡ mirrored-byte x → b ≡ mirrored-byte (x / 256) → a * 256 + b ≡ mirrored x

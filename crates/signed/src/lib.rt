@@ -5,7 +5,8 @@ ghost use mathlib.Core.Path.{_≡_};
 ghost use Prim.Native.Nat.{_<_};
 ghost use lib.IntN.{pos, _*ℤ_};
 ghost use lib.Signed.{quotZ, remZ, mag};
-ghost use Rattle.signed.specs.Signed.{signed-long, signed-word, low-long, outside-word, product-result, multiply-signed, multiply-unsigned, zero-divide, quotient-result, divide-signed, divide-unsigned};
+ghost use Rattle.signed.specs.Signed.{signed-long, signed-word, low-long, outside-word, product-result, multiply-signed, multiply-unsigned};
+ghost use Rattle.signed.specs.Signed.{zero-divide, quotient-result, divide-signed, divide-unsigned};
 
 // What a division leaves: the register, the five flags, and whether the divisor was 0.
 pub struct Divided {

@@ -26,8 +26,10 @@ use Rattle.plan.specs.declared.Plan.{Plan}
 use Rattle.bank.specs.Bank.{ssp-of, pc-of, sr-of, mode-of, supervisor, tracing, long, bank, sr-after, mode-after, settle}
 use Rattle.exception.specs.Exceptions.{Stepped, fresh, supervisor-sr, enter, small-room, exception, big-room, fault-taken, fault}
 use Rattle.step.specs.declared.Tried.{Tried}
-use Rattle.step.specs.Steps.{conclude, attempt, commit, trap-of, take-trap, traced, both, carry-out, instruction, interrupt-sr, interrupt, one-step}
-use Rattle.step.proofs.PlacesLaws.{pick-cases, each-at, each-set, Touches, touches-none, touches-then, touches-most, writes-of-small-frame, writes-of-big-frame, writes-of-commit}
+use Rattle.step.specs.Steps.{conclude, attempt, commit, trap-of, take-trap, traced, both, carry-out, instruction, interrupt-sr, interrupt}
+use Rattle.step.specs.Steps.{one-step}
+use Rattle.step.proofs.PlacesLaws.{pick-cases, each-at, each-set, Touches, touches-none, touches-then, touches-most, writes-of-small-frame}
+use Rattle.step.proofs.PlacesLaws.{writes-of-big-frame, writes-of-commit}
 use Rattle.step.proofs.SlotsLaws.{Keeps, kept-by-one-step}
 
 -- ---- status registers

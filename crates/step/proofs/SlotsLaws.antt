@@ -17,7 +17,8 @@ use Rattle.plan.specs.declared.Plan.{Plan}
 use Rattle.bank.specs.Bank.{long, ssp-of, pc-of, sr-of, mode-of, tracing, bank, settle}
 use Rattle.exception.specs.Exceptions.{Stepped, fresh, supervisor-sr, halted, enter, small-room, exception, big-room, fault-taken, fault}
 use Rattle.step.specs.declared.Tried.{Tried}
-use Rattle.step.specs.Steps.{conclude, attempt, commit, trap-of, take-trap, traced, both, carry-out, instruction, interrupt-sr, interrupt, one-step}
+use Rattle.step.specs.Steps.{conclude, attempt, commit, trap-of, take-trap, traced, both, carry-out, instruction, interrupt-sr, interrupt}
+use Rattle.step.specs.Steps.{one-step}
 use Rattle.step.proofs.PlacesLaws.{pick-cases}
 
 pub record Keeps (P : List ℕ → Type 0) : Type 0 where

@@ -19,7 +19,8 @@ use Rattle.bank.specs.Bank.{pc-of, sr-of, mode-of, tracing, bank, settle}
 use Rattle.exception.specs.Exceptions.{Stepped, fresh, supervisor-sr, exception, fault}
 use Rattle.execute.specs.Dispatch.{execute}
 use Rattle.step.specs.declared.Tried.{Tried}
-use Rattle.step.specs.Steps.{plan-with-flow, checked, Attempt, attempt, commit, trap-of, take-trap, traced, both, carry-out, conclude, instruction, interrupt-sr, interrupt, one-step}
+use Rattle.step.specs.Steps.{plan-with-flow, checked, Attempt, attempt, commit, trap-of, take-trap, traced, both, carry-out, conclude}
+use Rattle.step.specs.Steps.{instruction, interrupt-sr, interrupt, one-step}
 
 -- a part of an outcome
 module _ (x y : Stepped) (e : x ≡ y) where

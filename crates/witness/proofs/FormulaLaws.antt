@@ -11,7 +11,8 @@ use borrow.Author.Tests.{leb-true, leb-false}
 use Rattle.bits.specs.Bits.{pick, bit, by-size, modulus, half, low}
 use Rattle.bits.proofs.BitsLaws.{bit-bound}
 use Rattle.alu.specs.Alu.{sum, difference}
-use Rattle.witness.specs.Formulas.{top-bit, sum-overflow, sum-carry, difference-overflow, difference-borrow, negation-overflow, negation-borrow, By}
+use Rattle.witness.specs.Formulas.{top-bit, sum-overflow, sum-carry, difference-overflow, difference-borrow, negation-overflow, negation-borrow}
+use Rattle.witness.specs.Formulas.{By}
 
 -- whatever holds of a test's two answers, where each may be had
 leb-cases : (P : Bool → Type 0) (a b : ℕ) → (a ≤ b → P true) → (b < a → P false) → P (leb a b)

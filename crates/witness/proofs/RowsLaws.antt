@@ -17,7 +17,8 @@ use Rattle.decimal.specs.Decimal.{decimal-result, decimal-add, decimal-subtract
 use Rattle.signed.specs.Signed.{multiply-signed, divide-signed, divide-unsigned}
 use Rattle.shift.specs.Shift.{by-kind}
 use Rattle.witness.specs.Marks.{Mark, as-result, by-formula, kept, cleared, set-to-1, undefined, row, Follows, Obeys, Entry, Kept-to}
-use Rattle.witness.specs.Rows.{rows, sum-row, extended-row, compare-row, move-row, decimal-row, below, above, no-divisor, outside-signed, outside-unsigned}
+use Rattle.witness.specs.Rows.{rows, sum-row, extended-row, compare-row, move-row, decimal-row, below, above, no-divisor, outside-signed}
+use Rattle.witness.specs.Rows.{outside-unsigned}
 use Rattle.witness.proofs.MarksLaws.{obeys-of-flags}
 use Rattle.witness.proofs.DivideRowsLaws.{product-obeys, quotient-obeys, overflow-obeys, zero-obeys}
 use Rattle.witness.proofs.ShiftRowsLaws.{arithmetic-left-obeys, arithmetic-right-obeys, logical-obeys, extend-obeys, rotate-obeys, still-obeys}

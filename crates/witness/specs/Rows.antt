@@ -9,8 +9,10 @@ use lib.Dec.{ltb, leb, eqb}
 use lib.Bits.{bitAnd}
 use lib.Signed.{quotZ}
 use Rattle.bits.specs.Bits.{low}
-use Rattle.witness.specs.Marks.{as-result, cleared-or-kept, by-formula, kept, cleared, set-to-1, undefined, Row, row, Operands, Entry, always, in-case}
-use Rattle.alu.specs.Alu.{add, add-extended, subtract, subtract-extended, negate, negate-extended, compare, moved, and, or, exclusive-or, complement, extended, swapped, bit-number, bit-operation, tas, biased, check}
+use Rattle.witness.specs.Marks.{as-result, cleared-or-kept, by-formula, kept, cleared, set-to-1, undefined, Row, row, Operands, Entry, always}
+use Rattle.witness.specs.Marks.{in-case}
+use Rattle.alu.specs.Alu.{add, add-extended, subtract, subtract-extended, negate, negate-extended, compare, moved, and, or, exclusive-or, complement}
+use Rattle.alu.specs.Alu.{extended, swapped, bit-number, bit-operation, tas, biased, check}
 use Rattle.decimal.specs.Decimal.{decimal-add, decimal-subtract, decimal-negate}
 use Rattle.flags.specs.declared.Flagged.{Flagged}
 use Rattle.signed.specs.declared.Divided.{Divided}

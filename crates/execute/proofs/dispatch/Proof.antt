@@ -1,4 +1,5 @@
-use Rattle.execute.proofs.DispatchLaws.{dispatch-control, dispatch-integer, dispatch-logical, dispatch-movement, dispatch-refused, dispatch-system}
+use Rattle.execute.proofs.DispatchLaws.{dispatch-control, dispatch-integer, dispatch-logical, dispatch-movement, dispatch-refused}
+use Rattle.execute.proofs.DispatchLaws.{dispatch-system}
 use borrow.Author.Needs.{needs}
 use Rattle.execute.proofs.dispatch.Statement.{statement}
 use Rattle.execute.proofs.dispatch.Tie as tie

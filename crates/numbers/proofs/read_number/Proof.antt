@@ -1,7 +1,6 @@
 -- read_number: one group, or two; a longer number by read_groups, since five groups hold 32 bits.
 use Prim.Native.Nat.{_-_}
 use native.Mathlib.Omega.{arith}
-use denote.Ref.{now}
 use Rattle.numbers.proofs.GroupSteps.{number-none, number-one, number-alone, number-zero, number-two, number-of}
 use borrow.Author.Needs.{needs}
 use Rattle.numbers.proofs.read_number.Statement.{statement}
@@ -16,10 +15,10 @@ join-group-requires c κs =
 returns-5 : tie.Need-returns-5
 returns-5 c =
     let k = c .before .before .before .before .before .before in
-    let a = k .before .before .before .args in
-    let byte = k .shared-slice-known2 .given (a .end - 1) in
-    number-two (now (a .journal)) (a .end) (k .before .if1 .left) (k .before .before .before .pre) (c .before .before .before .before .before .if2 .left)
-    (c .before .before .before .before .if3 .left) (c .before .before .if4 .left) (c .before .if5 .taken) (byte .fits) (c .join-group .result) (c .join-group .ensures)
+    let s = k .before .before .before in
+    let byte = k .shared-slice-known2 .given (s .args .end - 1) in
+    number-two _ _ (k .before .if1 .left) (s .pre) (c .before .before .before .before .before .if2 .left)
+    (c .before .before .before .before .if3 .left) (c .before .before .if4 .left) (c .before .if5 .taken) (byte .fits) _ (c .join-group .ensures)
 
 pub read-number-spec : {M : Type 1} → statement M
 read-number-spec =

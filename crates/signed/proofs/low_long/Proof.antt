@@ -1,4 +1,5 @@
-use Rattle.signed.proofs.SignedLaws.{low-long-when-negative, low-long-when-not, plain-cast, plain-sign, rest-bound, rest-cast, rest-fits, rest-sign}
+use Rattle.signed.proofs.SignedLaws.{low-long-when-negative, low-long-when-not, plain-cast, plain-sign, rest-bound, rest-cast, rest-fits}
+use Rattle.signed.proofs.SignedLaws.{rest-sign}
 use borrow.Author.Needs.{needs}
 use Rattle.signed.proofs.low_long.Statement.{statement}
 use Rattle.signed.proofs.low_long.Tie as tie

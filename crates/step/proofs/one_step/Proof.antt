@@ -1,6 +1,7 @@
 use Rattle.exception.proofs.ExceptionLaws.{noted-still}
 use Rattle.step.proofs.NotedLaws.{noted-within}
-use Rattle.step.proofs.StepLaws.{event-by, memory-by, slots-by, step-instruction, step-interrupted, step-stopped-event, step-stopped-memory, step-stopped-slots}
+use Rattle.step.proofs.StepLaws.{event-by, memory-by, slots-by, step-instruction, step-interrupted, step-stopped-event, step-stopped-memory}
+use Rattle.step.proofs.StepLaws.{step-stopped-slots}
 use borrow.Author.Needs.{needs}
 use Rattle.step.proofs.one_step.Statement.{statement}
 use Rattle.step.proofs.one_step.Tie as tie

@@ -1,5 +1,6 @@
 use Rattle.exception.proofs.ExceptionLaws.{noted-still}
-use Rattle.step.proofs.StepLaws.{event-by, memory-by, slots-by, take-trap-none-event, take-trap-none-memory, take-trap-none-slots, take-trap-some}
+use Rattle.step.proofs.StepLaws.{event-by, memory-by, slots-by, take-trap-none-event, take-trap-none-memory, take-trap-none-slots}
+use Rattle.step.proofs.StepLaws.{take-trap-some}
 use borrow.Author.Needs.{needs}
 use Rattle.step.proofs.take_trap.Statement.{statement}
 use Rattle.step.proofs.take_trap.Tie as tie

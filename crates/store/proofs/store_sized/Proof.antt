@@ -1,6 +1,5 @@
 -- store_sized: by size; a law for each return.
 use Prim.Native.Nat.{ℕ}
-use denote.Ref.{now}
 use Rattle.store.proofs.StoreLaws.{size-byte, size-word, size-long, stored-sized-byte, stored-sized-word, stored-sized-long}
 use borrow.Author.Needs.{needs}
 use Rattle.store.proofs.store_sized.Statement.{statement}
@@ -8,36 +7,38 @@ use Rattle.store.proofs.store_sized.Tie as tie
 
 store-byte-requires : tie.Need-store-byte-requires
 store-byte-requires c κs =
-    let s = c .before .before .before .before .before in
-    (s .pre .0, rw (size-byte {A = ℕ} (s .args .z) 1 2 4 (c .before .before .if1 .taken)) at (s .pre .1))
+    let d = c .before .before in
+    let s = d .before .before .before in
+    (s .pre .0, rw (size-byte {A = ℕ} (s .args .z) 1 2 4 (d .if1 .taken)) at (s .pre .1))
 
 returns : tie.Need-returns
 returns c =
-    let s = c .before .before .before .before .before .before .before .before .before .before in
-    let g = c .before .before .before .before .store-byte in
-    stored-sized-byte (now (s .args .memory)) (now (s .args .log)) (s .args .n) (s .args .a) (s .args .z) (s .args .v) (g .last .0) (g .last .1 .0) (g .result) (c .before .before .before .before .before .before .before .if1 .taken) (g .ensures)
+    let g = c .before .before .before .before in
+    stored-sized-byte _ _ _ _ _ _ _ _ _ (g .before .before .before .if1 .taken) (g .store-byte .ensures)
 
 store-word-requires : tie.Need-store-word-requires
 store-word-requires c κs =
-    let s = c .before .before .before .before .before .before in
-    (s .pre .0, rw (size-word {A = ℕ} (s .args .z) 1 2 4 (c .before .before .before .if1 .left) (c .before .before .if2 .taken)) at (s .pre .1))
+    let d = c .before .before in
+    let s = d .before .before .before .before in
+    (s .pre .0, rw (size-word {A = ℕ} (s .args .z) 1 2 4 (d .before .if1 .left) (d .if2 .taken)) at (s .pre .1))
 
 returns-2 : tie.Need-returns-2
 returns-2 c =
-    let s = c .before .before .before .before .before .before .before .before .before .before .before in
-    let g = c .before .before .before .before .store-word in
-    stored-sized-word (now (s .args .memory)) (now (s .args .log)) (s .args .n) (s .args .a) (s .args .z) (s .args .v) (g .last .0) (g .last .1 .0) (g .result) (c .before .before .before .before .before .before .before .before .if1 .left) (c .before .before .before .before .before .before .before .if2 .taken) (g .ensures)
+    let g = c .before .before .before .before in
+    let d = g .before .before .before in
+    stored-sized-word _ _ _ _ _ _ _ _ _ (d .before .if1 .left) (d .if2 .taken) (g .store-word .ensures)
 
 store-long-requires : tie.Need-store-long-requires
 store-long-requires c κs =
-    let s = c .before .before .before .before .before .before in
-    (s .pre .0, rw (size-long {A = ℕ} (s .args .z) 1 2 4 (c .before .before .before .if1 .left) (c .before .before .if2 .left)) at (s .pre .1))
+    let d = c .before .before in
+    let s = d .before .before .before .before in
+    (s .pre .0, rw (size-long {A = ℕ} (s .args .z) 1 2 4 (d .before .if1 .left) (d .if2 .left)) at (s .pre .1))
 
 returns-3 : tie.Need-returns-3
 returns-3 c =
-    let s = c .before .before .before .before .before .before .before .before .before .before .before in
-    let g = c .before .before .before .before .store-long in
-    stored-sized-long (now (s .args .memory)) (now (s .args .log)) (s .args .n) (s .args .a) (s .args .z) (s .args .v) (g .last .0) (g .last .1 .0) (g .result) (c .before .before .before .before .before .before .before .before .if1 .left) (c .before .before .before .before .before .before .before .if2 .left) (g .ensures)
+    let g = c .before .before .before .before in
+    let d = g .before .before .before in
+    stored-sized-long _ _ _ _ _ _ _ _ _ (d .before .if1 .left) (d .if2 .left) (g .store-long .ensures)
 
 pub store-sized-spec : {M : Type 1} → statement M
 store-sized-spec =

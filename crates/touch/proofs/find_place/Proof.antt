@@ -1,8 +1,7 @@
 -- find_place: from the end; every entry passed is not below the place, and those before the one found are, by the order.
-use Prim.Native.Nat.{_-_, _/_, _^_, _≤_, _<_}
+use Prim.Native.Nat.{_/_, _^_, _≤_, _<_}
 use mathlib.Core.Path.{_≡_}
 use native.Mathlib.Omega.{arith}
-use denote.Ref.{now}
 use lib.ListN.{getD}
 use borrow.Author.Needs.{needs}
 use Rattle.touch.proofs.RoomLaws.{all-below}
@@ -24,7 +23,7 @@ returns c =
     let q = c .before .before .before .loop in
     record {
       within = q .inv .0;
-      below = all-below 0 (2 ^ 32) (now (s .args .log)) (s .args .n) (q .i) (s .args .a) (s .pre .1) (c .before .before .loop-test .taken) (q .inv .0) (s .pre .0) (c .if1 .taken);
+      below = all-below _ _ _ _ (q .i) _ (s .pre .1) (c .before .before .loop-test .taken) (q .inv .0) (s .pre .0) (c .if1 .taken);
       above = q .inv .1;
     }
 

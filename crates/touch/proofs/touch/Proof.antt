@@ -1,5 +1,5 @@
 -- touch: the place is last, is there, or is put before the next; a law for each.
-use Prim.Native.Nat.{ℕ, _+_, _*_, _^_, _<_}
+use Prim.Native.Nat.{ℕ, _+_, _<_}
 use native.Mathlib.Omega.{arith}
 use mathlib.Core.Path.{ap, sym, _∙_}
 use mathlib.Core.List.{List}
@@ -16,33 +16,28 @@ returns : tie.Need-returns
 returns c =
     let s = c .before .before .before .before in
     let below = rw (c .if1 .taken) at (c .before .find-place .ensures .below) in
-    (omega arith, touch-last (now (s .args .log)) (s .args .n) (s .args .a) (s .args .old) (s .pre .0) (s .fits .old .fits) below)
+    (omega arith, touch-last _ _ _ _ (s .pre .0) (s .fits .old .fits) below)
 
 returns-2 : tie.Need-returns-2
 returns-2 c =
-    let s = c .before .before .before .before .before .before in
-    let l = now (s .args .log) in
-    let n = s .args .n in
-    let a = s .args .a in
-    let o = s .args .old in
-    let i = c .before .before .before .find-place .result in
-    let found = c .before .before .before .find-place .ensures in
-    let below-n : i < n = omega (arith, found .within, c .before .before .if1 .left) in
-    (omega arith, sym (touch-old a o l n i below-n (omega arith) (found .below) (c .if2 .taken)))
+    let d = c .before .before in
+    let f = d .before .find-place in
+    let n = d .before .before .before .before .args .n in
+    let below-n : f .result < n = omega (arith, f .ensures .within, d .if1 .left) in
+    (omega arith, sym (touch-old _ _ _ n _ below-n (omega arith) (f .ensures .below) (c .if2 .taken)))
 
 returns-3 : tie.Need-returns-3
 returns-3 c =
-    let s = c .before .before .before .before .before .before .before .before .before .before in
+    let d = c .before .before .before .before in
+    let f = d .before .before .before in
+    let s = f .before .before .before in
+    let found = f .find-place .ensures in
+    let other = d .if2 .left in
     let l = now (s .args .log) in
     let n = s .args .n in
-    let a = s .args .a in
-    let o = s .args .old in
-    let i = c .before .before .before .before .before .before .before .find-place .result in
-    let found = c .before .before .before .before .before .before .before .find-place .ensures in
-    let other = c .before .before .before .before .if2 .left in
-    let g = c .before .before .make-room in
-    let new = touch-new a o l n i (found .within) (omega arith) (found .below) (λ q. let h = found .above q in omega arith) in
-    (omega arith, ap (λ (m : List ℕ). changes m (n + 1)) (g .ensures) ∙ changes-of-room l n i (a * 2 ^ 32 + o) (found .within) (s .pre .0) ∙ rw (unpacked a o (s .fits .old .fits)) (sym new))
+    let new = touch-new (s .args .a) (s .args .old) l n _ (found .within) (omega arith) (found .below) (λ q. let h = found .above q in omega arith) in
+    let made = ap (λ (m : List ℕ). changes m (n + 1)) (c .before .before .make-room .ensures) in
+    (omega arith, made ∙ changes-of-room l n _ _ (found .within) (s .pre .0) ∙ rw (unpacked _ _ (s .fits .old .fits)) (sym new))
 
 pub touch-spec : {M : Type 1} → statement M
 touch-spec =

@@ -2,7 +2,6 @@
 use Prim.Native.Nat.{_-_, _≤_}
 use native.Mathlib.Omega.{arith}
 use mathlib.Core.Path.{_≡_, refl, sym, _∙_}
-use denote.Ref.{now}
 use borrow.Author.Tests.{not-true, not-false}
 use Rattle.record.specs.Change.{between, changes}
 use Rattle.undo.specs.Undo.{all-valid, valid-for}
@@ -26,23 +25,22 @@ cast-valid-for c = omega (arith, c .shared-slice-known2 .given (c .before .befor
 
 returns : tie.Need-returns Inv-loop μ-loop
 returns c =
-    let s = c .before .before .before .before .before .before in
-    let q = c .before .before .before .before .loop in
+    let d = c .before .before .before in
+    let s = d .before .before .before in
     let g = c .before .valid-for in
-    sym (sym (q .inv .1) ∙ valid-not (now (s .args .log)) (q .i) (s .args .n) (c .before .before .before .loop-test .taken) (s .pre) (valid-for (s .args .bytes)) (sym (g .ensures) ∙ not-true (g .result) (c .if1 .taken)))
+    let bad = sym (g .ensures) ∙ not-true (g .result) (c .if1 .taken) in
+    sym (sym (d .before .loop .inv .1) ∙ valid-not _ _ _ (d .loop-test .taken) (s .pre) (valid-for (s .args .bytes)) bad)
 
 loop-again : tie.Need-loop-again Inv-loop μ-loop
 loop-again c =
-    let s = c .before .before .before .before .before .before in
-    let q = c .before .before .before .before .loop in
+    let d = c .before .before .before in
+    let s = d .before .before .before in
     let g = c .before .valid-for in
-    (omega arith, sym (valid-next (now (s .args .log)) (q .i) (s .args .n) (c .before .before .before .loop-test .taken) (s .pre) (valid-for (s .args .bytes)) (sym (g .ensures) ∙ not-false (g .result) (c .if1 .left))) ∙ q .inv .1)
+    let good = sym (g .ensures) ∙ not-false (g .result) (c .if1 .left) in
+    (omega arith, sym (valid-next _ _ _ (d .loop-test .taken) (s .pre) (valid-for (s .args .bytes)) good) ∙ d .before .loop .inv .1)
 
 returns-2 : tie.Need-returns-2 Inv-loop μ-loop
-returns-2 c =
-    let s = c .before .before .before in
-    let q = c .before .loop in
-    rw (← q .inv .1, between-past (now (s .args .log)) (q .i) (s .args .n) (q .inv .0) (c .loop-test .left))
+returns-2 c = let q = c .before .loop .inv in rw (← q .1, between-past _ _ _ (q .0) (c .loop-test .left))
 
 pub all-valid-spec : {M : Type 1} → statement M
 all-valid-spec =

@@ -1,5 +1,5 @@
 -- bytes_differ: the test of what is left of the log is the test of all of it.
-use Prim.Native.Nat.{_-_, _/_, _^_, _≤_}
+use Prim.Native.Nat.{ℕ, _-_, _/_, _^_, _≤_, _<_}
 use native.Mathlib.Omega.{arith}
 use mathlib.Core.Path.{_≡_, refl, sym, _∙_}
 use denote.Ref.{now}
@@ -22,32 +22,35 @@ abbrev μ-loop : tie.MeasureT-loop
 loop-holds : tie.Need-loop-holds Inv-loop μ-loop
 loop-holds c = (omega arith, refl)
 
+-- in a turn: the entry, and its place
+module _ (d : tie.In-loop Inv-loop μ-loop) where
+  abbrev s : tie.Start Inv-loop μ-loop
+  s = d .before .before
+
+  abbrev x : ℕ
+  x = getD (now (s .args .log)) (d .before .loop .i) 0
+
+  inside : x / 2 ^ 32 < length (now (s .args .memory))
+  inside = ascending-at 0 _ _ _ _ (s .pre .1) (d .loop-test .taken) (omega arith)
+
 shared-slice-read-if1 : tie.Need-shared-slice-read-if1 Inv-loop μ-loop
-shared-slice-read-if1 c =
-    let s = c .before .before .before .before in
-    let q = c .before .before .before .loop in
-    ascending-at 0 (length (now (s .args .memory))) (now (s .args .log)) (s .args .n) (q .i) (s .pre .1) (c .before .before .loop-test .taken) (omega arith)
+shared-slice-read-if1 c = inside (c .before .before)
 
 cast-if1 : tie.Need-cast-if1 Inv-loop μ-loop
-cast-if1 c = omega (arith, c .shared-slice-known2 .given (getD (now (c .before .before .before .before .args .log)) (c .before .before .before .loop .i) 0 / 2 ^ 32))
+cast-if1 c = omega (arith, c .shared-slice-known2 .given (x (c .before .before) / 2 ^ 32))
 
 returns : tie.Need-returns Inv-loop μ-loop
 returns c =
-    let s = c .before .before .before .before .before in
-    let q = c .before .before .before .before .loop in
-    sym (sym (q .inv .1) ∙ differs-not (now (s .args .log)) (q .i) (s .args .n) (c .before .before .before .loop-test .taken) (s .pre .0) (now (s .args .memory)) (c .if1 .taken))
+    let d = c .before .before .before in
+    sym (sym (d .before .loop .inv .1) ∙ differs-not _ _ _ (d .loop-test .taken) (search needs) _ (c .if1 .taken))
 
 loop-again : tie.Need-loop-again Inv-loop μ-loop
 loop-again c =
-    let s = c .before .before .before .before .before in
-    let q = c .before .before .before .before .loop in
-    (omega arith, sym (differs-next (now (s .args .log)) (q .i) (s .args .n) (c .before .before .before .loop-test .taken) (s .pre .0) (now (s .args .memory)) (c .if1 .left)) ∙ q .inv .1)
+    let d = c .before .before .before in
+    (omega arith, sym (differs-next _ _ _ (d .loop-test .taken) (search needs) _ (c .if1 .left)) ∙ d .before .loop .inv .1)
 
 returns-2 : tie.Need-returns-2 Inv-loop μ-loop
-returns-2 c =
-    let s = c .before .before in
-    let q = c .before .loop in
-    rw (← q .inv .1, between-past (now (s .args .log)) (q .i) (s .args .n) (q .inv .0) (c .loop-test .left))
+returns-2 c = let q = c .before .loop .inv in rw (← q .1, between-past _ _ _ (q .0) (c .loop-test .left))
 
 pub bytes-differ-spec : {M : Type 1} → statement M
 bytes-differ-spec =

@@ -1,15 +1,14 @@
 -- read_changes: what is left to read, read now, gives what was asked; what was read ascends.
-use Prim.Native.Nat.{suc}
 use Rattle.undo.proofs.ReadLaws.{number-bad, number-got, first-bad, second-bad, order-bad, one-read, filled, between-none}
-use Prim.Native.Nat.{_+_, _-_, _*_, _^_, _≤_}
+use Prim.Native.Nat.{ℕ, suc, _+_, _-_, _*_, _^_, _≤_, _<_}
 use native.Mathlib.Omega.{arith}
 use mathlib.Core.Path.{_≡_, refl, ap, sym, _∙_}
-use mathlib.Core.List.{[], _∷_}
+use mathlib.Core.List.{List, [], _∷_}
 use denote.Ref.{now}
 use lib.ListN.{length, length-set}
 use Rattle.record.specs.Change.{Change, Ascending, between}
 use Rattle.record.proofs.ChangeLaws.{ascending-raise, unpacked}
-use Rattle.numbers.specs.Number.{back, read-number}
+use Rattle.numbers.specs.Number.{back, read-number, got}
 use Rattle.undo.specs.Undo.{read-changes}
 use borrow.Author.Needs.{needs}
 use Rattle.undo.proofs.read_changes.Statement.{statement}
@@ -27,84 +26,83 @@ abbrev μ-loop : tie.MeasureT-loop
 loop-holds : tie.Need-loop-holds Inv-loop μ-loop
 loop-holds c =
     let a = c .before .before .args in
-    (omega arith, omega arith, refl, ap (read-changes (a .n) (a .limit) (back (now (a .journal)) (a .end))) (sym (between-none (now (a .out)) (a .n))), omega arith, rw (between-none (now (a .out)) (a .n)) tt)
+    let none = between-none (now (a .out)) (a .n) in
+    (omega arith, omega arith, refl, ap (read-changes (a .n) (a .limit) (back (now (a .journal)) (a .end))) (sym none), omega arith, rw none tt)
+
+-- ---- what is known at each place of a turn that gives something: a need further on goes back to the place
+-- the old value
+module _ (c : tie.After-old Inv-loop μ-loop) where
+  abbrev s₁ : tie.Start Inv-loop μ-loop
+  s₁ = c .before .before .before .before .before .before .before
+
+  abbrev d₁ : tie.In-loop Inv-loop μ-loop
+  d₁ = c .before .before .before
+
+  abbrev j : List ℕ
+  j = now (s₁ .args .journal)
+
+  abbrev old : ℕ
+  old = c .old .given .0 .0
+
+  abbrev p₁ : ℕ
+  p₁ = c .old .given .0 .1 .0
+
+  g₁ : (read-number (back j (d₁ .before .loop .e)) ≡ got old (back j p₁)) × (p₁ < d₁ .before .loop .e) × (old < 2 ^ 32)
+  g₁ = number-got _ _ _ (c .before .before .read-number .ensures) old p₁ (c .old .given .1)
+
+-- the place
+module _ (c : tie.After-place Inv-loop μ-loop) where
+  abbrev o₂ : tie.After-old Inv-loop μ-loop
+  o₂ = c .before .before .before .before
+
+  abbrev place : ℕ
+  place = c .place .given .0 .0
+
+  abbrev p₂ : ℕ
+  p₂ = c .place .given .0 .1 .0
+
+  g₂ : (read-number (back (j o₂) (p₁ o₂)) ≡ got place (back (j o₂) p₂)) × (p₂ < p₁ o₂) × (place < 2 ^ 32)
+  g₂ = number-got _ _ _ (c .before .before .read-number2 .ensures) place p₂ (c .place .given .1)
 
 returns : tie.Need-returns Inv-loop μ-loop
 returns c =
-    let s = c .before .before .before .before .before .before .before in
-    let q = c .before .before .before .before .loop in
-    let j = now (s .args .journal) in
-    let n = s .args .n in
-    let acc = between (q .k) n (q .out) in
-    let more = c .before .before .before .loop-test .taken in
-    let t = c .before .before .read-number in
-    q .inv .3 ∙ first-bad (q .k) (q .lim) (back j (q .e)) acc more (number-bad j (q .e) (t .result) (t .ensures) (c .enum-told .given .1))
+    let d = c .before .before .before in
+    let bad = number-bad _ _ _ (c .before .before .read-number .ensures) (c .enum-told .given .1) in
+    d .before .loop .inv .3 ∙ first-bad _ _ _ _ (d .loop-test .taken) bad
 
 read-number-requires-2 : tie.Need-read-number-requires-2 Inv-loop μ-loop
-read-number-requires-2 c κs =
-    let s = c .before .before .before .before .before .before .before .before in
-    let q = c .before .before .before .before .before .loop in
-    let j = now (s .args .journal) in
-    let n = s .args .n in
-    let acc = between (q .k) n (q .out) in
-    let more = c .before .before .before .before .loop-test .taken in
-    let t = c .before .before .before .read-number in
-    let o = c .before .old .given in
-    let g = number-got j (q .e) (t .result) (t .ensures) (o .0 .0) (o .0 .1 .0) (o .1) in
-    omega (arith, g .1)
+read-number-requires-2 c κs = omega (arith, g₁ (c .before) .1)
 
 returns-2 : tie.Need-returns-2 Inv-loop μ-loop
 returns-2 c =
-    let s = c .before .before .before .before .before .before .before .before .before .before .before in
-    let q = c .before .before .before .before .before .before .before .before .loop in
-    let j = now (s .args .journal) in
-    let n = s .args .n in
-    let acc = between (q .k) n (q .out) in
-    let more = c .before .before .before .before .before .before .before .loop-test .taken in
-    let t = c .before .before .before .before .before .before .read-number in
-    let o = c .before .before .before .before .old .given in
-    let g = number-got j (q .e) (t .result) (t .ensures) (o .0 .0) (o .0 .1 .0) (o .1) in
-    let u = c .before .before .read-number2 in
-    q .inv .3 ∙ second-bad (q .k) (q .lim) (back j (q .e)) acc more (o .0 .0) (back j (o .0 .1 .0)) (g .0) (number-bad j (o .0 .1 .0) (u .result) (u .ensures) (c .enum-told2 .given .1))
+    let o = c .before .before .before .before in
+    let d = d₁ o in
+    let bad = number-bad _ _ _ (c .before .before .read-number2 .ensures) (c .enum-told2 .given .1) in
+    d .before .loop .inv .3 ∙ second-bad _ _ _ _ (d .loop-test .taken) _ _ (g₁ o .0) bad
 
 returns-3 : tie.Need-returns-3 Inv-loop μ-loop
 returns-3 c =
-    let s = c .before .before .before .before .before .before .before .before .before .before .before .before .before in
-    let q = c .before .before .before .before .before .before .before .before .before .before .loop in
-    let j = now (s .args .journal) in
-    let n = s .args .n in
-    let acc = between (q .k) n (q .out) in
-    let more = c .before .before .before .before .before .before .before .before .before .loop-test .taken in
-    let t = c .before .before .before .before .before .before .before .before .read-number in
-    let o = c .before .before .before .before .before .before .old .given in
-    let g = number-got j (q .e) (t .result) (t .ensures) (o .0 .0) (o .0 .1 .0) (o .1) in
-    let u = c .before .before .before .before .read-number2 in
-    let p = c .before .before .place .given in
-    let h = number-got j (o .0 .1 .0) (u .result) (u .ensures) (p .0 .0) (p .0 .1 .0) (p .1) in
-    q .inv .3 ∙ order-bad (q .k) (q .lim) (back j (q .e)) acc more (o .0 .0) (back j (o .0 .1 .0)) (g .0) (p .0 .0) (back j (p .0 .1 .0)) (h .0) (c .if1 .taken)
+    let p = c .before .before in
+    let d = d₁ (o₂ p) in
+    d .before .loop .inv .3 ∙ order-bad _ _ _ _ (d .loop-test .taken) _ _ (g₁ (o₂ p) .0) _ _ (g₂ p .0) (c .if1 .taken)
 
 loop-again : tie.Need-loop-again Inv-loop μ-loop
 loop-again c =
-    let s = c .before .before .before .before .before .before .before .before .before .before .before .before .before in
-    let q = c .before .before .before .before .before .before .before .before .before .before .loop in
-    let j = now (s .args .journal) in
-    let n = s .args .n in
-    let acc = between (q .k) n (q .out) in
-    let more = c .before .before .before .before .before .before .before .before .before .loop-test .taken in
-    let t = c .before .before .before .before .before .before .before .before .read-number in
-    let o = c .before .before .before .before .before .before .old .given in
-    let g = number-got j (q .e) (t .result) (t .ensures) (o .0 .0) (o .0 .1 .0) (o .1) in
-    let u = c .before .before .before .before .read-number2 in
-    let p = c .before .before .place .given in
-    let h = number-got j (o .0 .1 .0) (u .result) (u .ensures) (p .0 .0) (p .0 .1 .0) (p .1) in
-    let one = one-read (q .k) (q .lim) (back j (q .e)) acc more (o .0 .0) (back j (o .0 .1 .0)) (g .0) (p .0 .0) (back j (p .0 .1 .0)) (h .0) (c .if1 .left) in
-    let new = filled (q .out) (q .k) n (p .0 .0 * 2 ^ 32 + o .0 .0) more (q .inv .0) (omega arith) ∙ ap (λ (x : Change). x ∷ acc) (unpacked (p .0 .0) (o .0 .0) (g .2)) in (
+    let p = c .before .before in
+    let o = o₂ p in
+    let d = d₁ o in
+    let q = d .before .loop in
+    let more = d .loop-test .taken in
+    let x = place p * 2 ^ 32 + old o in
+    let acc = between (q .k) (s₁ o .args .n) (q .out) in
+    let one = one-read _ _ _ acc more _ _ (g₁ o .0) _ _ (g₂ p .0) (c .if1 .left) in
+    let new = filled (q .out) (q .k) (s₁ o .args .n) x more (q .inv .0) (omega arith) ∙ ap (λ (c : Change). c ∷ acc) (unpacked _ _ (g₁ o .2)) in (
       omega arith,
-      omega (arith, g .1, h .1),
-      length-set (q .out) (q .k - 1) (p .0 .0 * 2 ^ 32 + o .0 .0) ∙ q .inv .2,
-      q .inv .3 ∙ one ∙ ap (read-changes (q .k - 1) (p .0 .0) (back j (p .0 .1 .0))) (sym new),
+      omega (arith, g₁ o .1, g₂ p .1),
+      length-set (q .out) (q .k - 1) x ∙ q .inv .2,
+      q .inv .3 ∙ one ∙ ap (read-changes (q .k - 1) (place p) (back (j o) (p₂ p))) (sym new),
       omega (arith, c .if1 .left),
-      rw new (omega arith, omega (arith, c .if1 .left), ascending-raise (q .lim) (suc (p .0 .0)) (s .args .limit) acc (c .if1 .left) (q .inv .5)),
+      rw new (omega arith, omega (arith, c .if1 .left), ascending-raise _ (suc (place p)) _ acc (c .if1 .left) (q .inv .5)),
     )
 
 returns-4 : tie.Need-returns-4 Inv-loop μ-loop

@@ -2,7 +2,7 @@
 use native.Mathlib.Nat.{mod-eq-of-lt}
 use Rattle.undo.proofs.JudgeLaws.{restore-next, olds-at}
 use Rattle.undo.proofs.ReadLaws.{between-past}
-use Prim.Native.Nat.{_-_, _/_, _%_, _^_, _≤_}
+use Prim.Native.Nat.{ℕ, _-_, _/_, _%_, _^_, _≤_, _<_}
 use native.Mathlib.Omega.{arith}
 use mathlib.Core.Path.{_≡_, refl, ap, sym, _∙_}
 use mathlib.Core.List.{List}
@@ -23,32 +23,34 @@ abbrev μ-loop : tie.MeasureT-loop
 loop-holds : tie.Need-loop-holds Inv-loop μ-loop
 loop-holds c = (omega arith, refl, refl)
 
+-- in a turn: the entry, and its place
+module _ (d : tie.In-loop Inv-loop μ-loop) where
+  abbrev s : tie.Start Inv-loop μ-loop
+  s = d .before .before
+
+  abbrev x : ℕ
+  x = getD (now (s .args .log)) (d .before .loop .i) 0
+
+  inside : x / 2 ^ 32 < length (now (s .args .memory))
+  inside = ascending-at 0 _ _ _ _ (s .pre .1) (d .loop-test .taken) (omega arith)
+
+  small : x % 2 ^ 32 % 256 ≡ x % 2 ^ 32
+  small = mod-eq-of-lt (olds-at _ _ _ (s .pre .2) (d .loop-test .taken) (omega arith))
+
 slice-write-memory : tie.Need-slice-write-memory Inv-loop μ-loop
-slice-write-memory c =
-    let s = c .before .before .before in
-    let q = c .before .before .loop in
-    let log = now (s .args .log) in
-    let x = getD log (q .i) 0 in
-    let test = c .before .loop-test .taken in
-    let inside = ascending-at 0 (length (now (s .args .memory))) log (s .args .n) (q .i) (s .pre .1) test (omega arith) in
-    omega arith
+slice-write-memory c = omega (arith, inside (c .before), c .before .before .loop .inv .2)
 
 loop-again : tie.Need-loop-again Inv-loop μ-loop
 loop-again c =
-    let s = c .before .before .before in
-    let q = c .before .before .loop in
-    let log = now (s .args .log) in
-    let x = getD log (q .i) 0 in
-    let test = c .before .loop-test .taken in
-    let inside = ascending-at 0 (length (now (s .args .memory))) log (s .args .n) (q .i) (s .pre .1) test (omega arith) in
-    let small : x % 2 ^ 32 % 256 ≡ x % 2 ^ 32 = mod-eq-of-lt (olds-at log (s .args .n) (q .i) (s .pre .2) test (omega arith)) in
-    (omega arith, rw small (sym (restore-next log (q .i) (s .args .n) test (s .pre .0) (q .memory)) ∙ q .inv .1), length-set (q .memory) (x / 2 ^ 32) (x % 2 ^ 32 % 256) ∙ q .inv .2)
+    let d = c .before in
+    let q = d .before .loop in
+    let next = restore-next _ _ _ (d .loop-test .taken) (s d .pre .0) (q .memory) in
+    (omega arith, rw (small d) (sym next ∙ q .inv .1), length-set (q .memory) _ _ ∙ q .inv .2)
 
 returns : tie.Need-returns Inv-loop μ-loop
 returns c =
-    let s = c .before .before in
     let q = c .before .loop in
-    sym (ap (λ (cs : List Change). restore cs (q .memory)) (between-past (now (s .args .log)) (q .i) (s .args .n) (q .inv .0) (c .loop-test .left))) ∙ q .inv .1
+    sym (ap (λ (cs : List Change). restore cs (q .memory)) (between-past _ _ _ (q .inv .0) (c .loop-test .left))) ∙ q .inv .1
 
 pub restore-bytes-spec : {M : Type 1} → statement M
 restore-bytes-spec =
