@@ -6,5 +6,4 @@ use Rattle.control.proofs.branch_subroutine.Tie as tie
 pub branch-subroutine-spec : {M : Type 1} → statement M
 branch-subroutine-spec =
     tie.close (tie.spec
-    (λ c κs. search needs) (λ c κs. search needs) (λ c κs. search needs) (λ c κs. search needs)
-    (λ c. search branch-subroutine-is))
+    (λ c κs. search needs) (λ c κs. search needs) (λ c κs. search needs) (λ c κs. search needs) (λ c. search branch-subroutine-is))

@@ -6,6 +6,5 @@ use Rattle.control.proofs.decrement_branch.Tie as tie
 pub decrement-branch-spec : {M : Type 1} → statement M
 decrement-branch-spec =
     tie.close (tie.spec
-    (λ c κs. search needs) (λ c κs. search needs) (λ c κs. search needs) (λ c. search decrement-ended)
-    (λ c κs. search needs) (λ c κs. search needs) (λ c κs. search needs) (λ c κs. search needs) (λ c κs. search needs)
-    (λ c. search decrement-counted))
+    (λ c κs. search needs) (λ c κs. search needs) (λ c κs. search needs) (λ c. search decrement-ended) (λ c κs. search needs) (λ c κs. search needs)
+    (λ c κs. search needs) (λ c κs. search needs) (λ c κs. search needs) (λ c. search decrement-counted))

@@ -6,5 +6,4 @@ use Rattle.integer.proofs.compare_immediate.Tie as tie
 pub compare-immediate-spec : {M : Type 1} → statement M
 compare-immediate-spec =
     tie.close (tie.spec
-    (λ c κs. search needs) (λ c κs. search needs) (λ c κs. search needs) (λ c κs. search needs)
-    (λ c. search compare-immediate-is))
+    (λ c κs. search needs) (λ c κs. search needs) (λ c κs. search needs) (λ c κs. search needs) (λ c. search compare-immediate-is))

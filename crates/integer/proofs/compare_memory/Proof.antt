@@ -6,5 +6,4 @@ use Rattle.integer.proofs.compare_memory.Tie as tie
 pub compare-memory-spec : {M : Type 1} → statement M
 compare-memory-spec =
     tie.close (tie.spec
-    (λ c κs. search needs) (λ c κs. search needs) (λ c κs. search needs) (λ c κs. search needs)
-    (λ c. search compare-memory-is))
+    (λ c κs. search needs) (λ c κs. search needs) (λ c κs. search needs) (λ c κs. search needs) (λ c. search compare-memory-is))

@@ -6,6 +6,5 @@ use Rattle.integer.proofs.divide.Tie as tie
 pub divide-spec : {M : Type 1} → statement M
 divide-spec =
     tie.close (tie.spec
-    (λ c κs. search needs) (λ c κs. search needs) (λ c κs. search needs) (λ c κs. search needs) (λ c κs. search needs)
-    (λ c. search divide-trap) (λ c κs. search needs) (λ c κs. search needs)
-    (λ c. search divide-is))
+    (λ c κs. search needs) (λ c κs. search needs) (λ c κs. search needs) (λ c κs. search needs) (λ c κs. search needs) (λ c. search divide-trap)
+    (λ c κs. search needs) (λ c κs. search needs) (λ c. search divide-is))

@@ -6,5 +6,4 @@ use Rattle.movement.proofs.move_data.Tie as tie
 pub move-data-spec : {M : Type 1} → statement M
 move-data-spec =
     tie.close (tie.spec
-    (λ c κs. search needs) (λ c κs. search needs) (λ c κs. search needs) (λ c κs. search needs)
-    (λ c. search move-data-is))
+    (λ c κs. search needs) (λ c κs. search needs) (λ c κs. search needs) (λ c κs. search needs) (λ c. search move-data-is))

@@ -6,5 +6,4 @@ use Rattle.movement.proofs.move_operands.Tie as tie
 pub move-operands-spec : {M : Type 1} → statement M
 move-operands-spec =
     tie.close (tie.spec
-    (λ c κs. search needs) (λ c κs. search needs) (λ c κs. search needs) (λ c κs. search needs)
-    (λ c. search move-operands-is))
+    (λ c κs. search needs) (λ c κs. search needs) (λ c κs. search needs) (λ c κs. search needs) (λ c. search move-operands-is))

@@ -6,5 +6,4 @@ use Rattle.movement.proofs.move_quick.Tie as tie
 pub move-quick-spec : {M : Type 1} → statement M
 move-quick-spec =
     tie.close (tie.spec
-    (λ c κs. search needs) (λ c κs. search needs) (λ c κs. search needs) (λ c κs. search needs) (λ c κs. search needs)
-    (λ c. search move-quick-is))
+    (λ c κs. search needs) (λ c κs. search needs) (λ c κs. search needs) (λ c κs. search needs) (λ c κs. search needs) (λ c. search move-quick-is))

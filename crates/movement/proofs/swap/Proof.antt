@@ -6,5 +6,4 @@ use Rattle.movement.proofs.swap.Tie as tie
 pub swap-spec : {M : Type 1} → statement M
 swap-spec =
     tie.close (tie.spec
-    (λ c κs. search needs) (λ c κs. search needs) (λ c κs. search needs) (λ c κs. search needs) (λ c κs. search needs)
-    (λ c. search swap-is))
+    (λ c κs. search needs) (λ c κs. search needs) (λ c κs. search needs) (λ c κs. search needs) (λ c κs. search needs) (λ c. search swap-is))

@@ -6,5 +6,5 @@ use Rattle.plan.proofs.finish.Tie as tie
 pub finish-spec : {M : Type 1} → statement M
 finish-spec =
     tie.close (tie.spec
-    (λ c κs. search needs) (λ c κs. search needs) (λ c κs. search needs) (λ c. search finish-register)
-    (λ c κs. search needs) (λ c. search finish-memory))
+    (λ c κs. search needs) (λ c κs. search needs) (λ c κs. search needs) (λ c. search finish-register) (λ c κs. search needs)
+    (λ c. search finish-memory))
