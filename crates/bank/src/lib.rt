@@ -83,7 +83,7 @@ pub fn bank(s: &mut [u32; SLOTS])
 fn mode_after(sr: u32, vec: u32) -> u32
     ensures { λ q. ⌜ q ≡ mode-after sr vec ⌝ }
 {
-    let stop = vec == codes::STOP;
+    let stop = vec == codes::STOP_CODE;
     let sup = supervisor(sr);
     let trace = tracing(sr);
     bits::bit(stop & sup & !trace)

@@ -45,22 +45,22 @@ pub fn shift_register(r: &mut [u32; SLOTS], mem: &[u8], op: u32, f: Flow) -> Pla
     ensures { λ p. ⌜ record { r = now (r .exit); p = p } ≡ shift-register (now (r .entry)) (view-of (now (mem .entry))) op f ⌝ }
 {
     let n = shift_count(r, op);
-    shift_place(op / 8 % 4, n, 0, op / 64 % 4, r, mem, op, f)
+    shift_place(op / 8 % 4, n, codes::IN_DATA, op / 64 % 4, r, mem, op, f)
 }
 
 // A word in memory, one place.
 pub fn shift_memory(r: &mut [u32; SLOTS], mem: &[u8], op: u32, f: Flow) -> Plan
     ensures { λ p. ⌜ record { r = now (r .exit); p = p } ≡ shift-memory (now (r .entry)) (view-of (now (mem .entry))) op f ⌝ }
 {
-    shift_place(op / 512 % 4, 1, op / 8 % 8, 1, r, mem, op, f)
+    shift_place(op / 512 % 4, 1, op / 8 % 8, codes::WORD, r, mem, op, f)
 }
 
 // A data register is taken as a long, all else as a byte.
 fn bit_size(op: u32) -> u32
     ensures { λ z. ⌜ z ≡ bit-size op ⌝ }
 {
-    let held = op / 8 % 8 == 0;
-    bits::bit(held) * 2
+    let held = op / 8 % 8 == codes::IN_DATA;
+    bits::bit(held) * codes::LONG
 }
 
 // BTST, BCHG, BCLR, BSET of bit n; BTST writes nothing.

@@ -1,7 +1,7 @@
 -- Codes.antt - the numbers that stand for something, each by one name: sizes, slots and registers, modes, SR's bits, vectors, events, accesses, writes.
 -- Means of: src/lib.rt (DataRead here is DATA_READ there: underscores before capitals). Kinds of instruction: Kinds.antt of decode.
 -- Uses: nothing.  Source: [003 1.2], [003 2.2], [003 2.11], [003 4.3], [01 What the box emulates, State], [01 step 1] to [01 step 8]; the rest is [ours].
-use Prim.Native.Nat.{ℕ, _+_, _*_, _%_, _/_}
+use Prim.Native.Nat.{ℕ, _+_}
 
 -- ---- sizes, as an operation word's size field has them  [003 2.2]
 abbrev pub Byte : ℕ
@@ -61,8 +61,8 @@ abbrev pub NoRegister : ℕ
 NoRegister = 17
 
 -- ---- the status register: flags below $20, the mask's lowest bit, S, T; SR after a reset  [003 1.2] [01 What the box emulates, State]
-abbrev pub Flags : ℕ
-Flags = 0x0020
+abbrev pub FlagValues : ℕ
+FlagValues = 0x0020
 
 abbrev pub Mask : ℕ
 Mask = 0x0100
@@ -100,23 +100,23 @@ BusError = 2
 abbrev pub AddressError : ℕ
 AddressError = 3
 
-abbrev pub IllegalWord : ℕ
-IllegalWord = 4
+abbrev pub IllegalInstruction : ℕ
+IllegalInstruction = 4
 
 abbrev pub ZeroDivide : ℕ
 ZeroDivide = 5
 
-abbrev pub OutOfBounds : ℕ
-OutOfBounds = 6
+abbrev pub ChkInstruction : ℕ
+ChkInstruction = 6
 
-abbrev pub Overflow : ℕ
-Overflow = 7
+abbrev pub TrapvInstruction : ℕ
+TrapvInstruction = 7
 
-abbrev pub Privilege : ℕ
-Privilege = 8
+abbrev pub PrivilegeViolation : ℕ
+PrivilegeViolation = 8
 
-abbrev pub Tracing : ℕ
-Tracing = 9
+abbrev pub TraceVector : ℕ
+TraceVector = 9
 
 abbrev pub Line1010 : ℕ
 Line1010 = 10
@@ -132,8 +132,8 @@ FirstTrap = 32
 abbrev pub NoVector : ℕ
 NoVector = 0
 
-abbrev pub Stop : ℕ
-Stop = 0x100
+abbrev pub StopCode : ℕ
+StopCode = 0x100
 
 -- ---- a step's event: none, 1 more than the vector that was taken first, a halt  [01 Calls, step]
 abbrev pub NoEvent : ℕ

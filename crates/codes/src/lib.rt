@@ -40,7 +40,7 @@ pub const USER_STACK: u32 = 16;
 pub const NO_REGISTER: u32 = 17;
 
 // The status register: flags below $20, the mask's lowest bit, S, T; SR after a reset.
-pub const FLAGS: u32 = 0x0020;
+pub const FLAG_VALUES: u32 = 0x0020;
 
 pub const MASK: u32 = 0x0100;
 
@@ -66,17 +66,17 @@ pub const BUS_ERROR: u32 = 2;
 
 pub const ADDRESS_ERROR: u32 = 3;
 
-pub const ILLEGAL_WORD: u32 = 4;
+pub const ILLEGAL_INSTRUCTION: u32 = 4;
 
 pub const ZERO_DIVIDE: u32 = 5;
 
-pub const OUT_OF_BOUNDS: u32 = 6;
+pub const CHK_INSTRUCTION: u32 = 6;
 
-pub const OVERFLOW: u32 = 7;
+pub const TRAPV_INSTRUCTION: u32 = 7;
 
-pub const PRIVILEGE: u32 = 8;
+pub const PRIVILEGE_VIOLATION: u32 = 8;
 
-pub const TRACING: u32 = 9;
+pub const TRACE_VECTOR: u32 = 9;
 
 pub const LINE1010: u32 = 10;
 
@@ -87,7 +87,7 @@ pub const FIRST_TRAP: u32 = 32;
 // A plan's vector where it is none: no trap, or a stop.
 pub const NO_VECTOR: u32 = 0;
 
-pub const STOP: u32 = 0x100;
+pub const STOP_CODE: u32 = 0x100;
 
 // A step's event: none, 1 more than the vector that was taken first, a halt.
 pub const NO_EVENT: u32 = 0;

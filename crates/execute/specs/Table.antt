@@ -3,7 +3,7 @@
 -- Source: [01 step 2], [003 3].
 use Prim.Native.Nat.{ℕ}
 use mathlib.Core.List.{List, [], _∷_}
-use Rattle.codes.specs.Codes.{IllegalWord, Line1010, Line1111, Add, Subtract, Compare, And, Or, ExclusiveOr, AddExtended, SubtractExtended}
+use Rattle.codes.specs.Codes.{IllegalInstruction, Line1010, Line1111, Add, Subtract, Compare, And, Or, ExclusiveOr, AddExtended, SubtractExtended}
 use Rattle.codes.specs.Codes.{AddDecimal, SubtractDecimal, Negate, NegateExtended, Complement, Clear, NegateDecimal, TestAndSet, Signed, Unsigned}
 use Rattle.decode.specs.Kinds as k
 use Rattle.movement.specs.Movement.{exchange-address, exchange-both, exchange-data, link, load-address, move-address, move-data, move-quick}
@@ -21,7 +21,7 @@ use Rattle.execute.specs.Dispatch.{Instruction, refused}
 -- each kind and its instruction  [003 3]
 abbrev pub table : List (ℕ × Instruction)
 table =
-    (k.Illegal, refused IllegalWord)  -- [01 step 2]
+    (k.Illegal, refused IllegalInstruction)  -- [01 step 2]
     ∷ (k.LineA, refused Line1010)  -- [01 step 2]
     ∷ (k.LineF, refused Line1111)  -- [01 step 2]
     ∷ (k.Move, move-data)  -- [003 B MOVE]

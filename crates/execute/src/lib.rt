@@ -24,7 +24,7 @@ fn refused_kind(j: u32, r: &[u32; SLOTS], mem: &[u8], op: u32, f: Flow) -> Plan
     ensures { λ p. ⌜ record { r = now (r .entry); p = p } ≡ refused-kind j (now (r .entry)) (view-of (now (mem .entry))) op f ⌝ }
 {
     match j {
-        0 => refused(codes::ILLEGAL_WORD, f),
+        0 => refused(codes::ILLEGAL_INSTRUCTION, f),
         1 => refused(codes::LINE1010, f),
         _ => refused(codes::LINE1111, f),
     }
@@ -189,7 +189,7 @@ fn as_user(k: u32, r: &mut [u32; SLOTS], mem: &[u8], op: u32, f: Flow) -> Plan
 {
     let high = decode::privileged(k);
     if high {
-        return refused(codes::PRIVILEGE, f);
+        return refused(codes::PRIVILEGE_VIOLATION, f);
     }
     dispatch(k, r, mem, op, f)
 }

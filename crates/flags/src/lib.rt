@@ -53,14 +53,14 @@ pub fn c_of(sr: u32) -> bool
 pub fn with_ccr(sr: u32, c: u32) -> u32
     ensures { λ r. ⌜ r ≡ with-ccr sr c ⌝ }
 {
-    bits::joined(sr, sr % codes::FLAGS, c % codes::FLAGS)
+    bits::joined(sr, sr % codes::FLAG_VALUES, c % codes::FLAG_VALUES)
 }
 
 // The bits that a status register has, $A71F; a write to it drops the others.
 pub fn sr_bits(x: u32) -> u32
     ensures { λ r. ⌜ r ≡ sr-bits x ⌝ }
 {
-    x % codes::FLAGS
+    x % codes::FLAG_VALUES
         + x / codes::MASK % 8 * codes::MASK
         + x / codes::SUPERVISOR % 2 * codes::SUPERVISOR
         + x / codes::TRACE % 2 * codes::TRACE

@@ -55,7 +55,7 @@ fn add_byte() {
     let a = machine::step(&mut s, &mut m, 0, 0, &mut j, 0);
     show(a.number);
     show(s[0]);
-    show(s[codes::SR] % codes::FLAGS);
+    show(s[codes::SR] % codes::FLAG_VALUES);
     end_line();
 }
 

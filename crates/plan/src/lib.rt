@@ -69,7 +69,7 @@ pub fn refusing(vec: u32, own: u32, f: Flow) -> Plan
 pub fn stopping(f: Flow) -> Plan
     ensures { λ p. ⌜ p ≡ stopping f ⌝ }
 {
-    trapping(codes::STOP, f)
+    trapping(codes::STOP_CODE, f)
 }
 
 pub fn writing(z: u32, at: u32, v: u32, f: Flow) -> Plan

@@ -15,7 +15,7 @@ use mathlib.Core.List.{List}
 use lib.ListN.{length, set, length-set}
 use lib.Dec.{ltb, eqb}
 use borrow.Author.Tests.{eq-eqb, eqb-true, lt-ltb}
-use Rattle.codes.specs.Codes.{Ssp, Pc, Sr, Mode, Running, Halted, Mask, Tracing, NoVector, Stop, NoWrite, DataRead}
+use Rattle.codes.specs.Codes.{Ssp, Pc, Sr, Mode, Running, Halted, Mask, TopLevel, TraceVector, NoVector, StopCode, DataRead, NoWrite}
 use Rattle.bits.specs.Bits.{pick, plus, minus}
 use Rattle.bits.proofs.BitsLaws.{bit-bound}
 use Rattle.flags.specs.Flags.{sr-bits, with-ccr}
@@ -147,7 +147,7 @@ sound-of-enter s v a vec sr h ha hs =
 
 mode-bound : (sr vec : ℕ) → mode-after sr vec ≤ 1
 unfolding mode-after
-mode-bound sr vec = bit-bound (eqb vec Stop && supervisor sr && not (tracing sr))
+mode-bound sr vec = bit-bound (eqb vec StopCode && supervisor sr && not (tracing sr))
 
 pub sound-of-settle : (s r : List ℕ) (p : Plan) → Sound s → Sound (settle s r p)
 unfolding settle valid-value
@@ -215,7 +215,7 @@ module _ (s m : List ℕ) (h : ValidBytes m) where
       let w = writes-of-commit r p .touch m h in
       pick-cases (λ (t : Stepped). Touches 70 m (t .m)) (eqb (p .write) NoWrite)
       (touches-most (touches-of-both (trap-of p) trace) (omega arith))
-      (touches-then w (touches-of-take-trap s (commit m r p) (w .bytes) (pick trace Tracing NoVector)))
+      (touches-then w (touches-of-take-trap s (commit m r p) (w .bytes) (pick trace TraceVector NoVector)))
 
 module _ (s m : List ℕ) (h : ValidBytes m) where
   touches-of-conclude : (r : List ℕ) (t : Tried) → Touches 70 m (conclude s m r t .m)
@@ -234,7 +234,7 @@ module _ (s m : List ℕ) (h : ValidBytes m) where
   touches-of-one-step : (level vector : ℕ) → Touches 70 m (one-step s m level vector .m)
   unfolding one-step interrupt
   touches-of-one-step level vector =
-      pick-cases (λ (t : Stepped). Touches 70 m (t .m)) (eqb level 7 || ltb (sr-of s / Mask % 8) level)
+      pick-cases (λ (t : Stepped). Touches 70 m (t .m)) (eqb level TopLevel || ltb (sr-of s / Mask % 8) level)
       (touches-most (touches-of-exception s m h vector (interrupt-sr (sr-of s) level)) (omega arith))
       (pick-cases (λ (t : Stepped). Touches 70 m (t .m)) (eqb (mode-of s) Running) touches-of-instruction (touches-none 70 m h))
 

@@ -9,7 +9,7 @@ use mathlib.Core.Bool.{Bool, _||_}
 use mathlib.Core.List.{List}
 use lib.ListN.{length, set, length-set}
 use lib.Dec.{ltb, eqb}
-use Rattle.codes.specs.Codes.{Ssp, Pc, Sr, Mode, Running, Halted, Mask, Tracing, NoVector, NoWrite, DataRead}
+use Rattle.codes.specs.Codes.{Ssp, Pc, Sr, Mode, Running, Halted, Mask, TopLevel, TraceVector, NoVector, DataRead, NoWrite}
 use Rattle.bits.specs.Bits.{pick, minus}
 use Rattle.bus.specs.Bus.{View, view-of, read-long, fault-vector}
 use Rattle.record.specs.Limits.{slot-limit}
@@ -57,7 +57,7 @@ module _ (P : List ℕ → Type 0) (keeps : Keeps P) where
     kept-by-carry-out r p trace =
         pick-cases InSlots (eqb (p .write) NoWrite)
         (kept-by-both (trap-of p) trace)
-        (kept-by-take-trap s (commit m r p) h (pick trace Tracing NoVector))
+        (kept-by-take-trap s (commit m r p) h (pick trace TraceVector NoVector))
 
   module _ (s m : List ℕ) (h : P s) where
     kept-by-conclude : (r : List ℕ) (t : Tried) → InSlots (conclude s m r t)
@@ -76,7 +76,7 @@ module _ (P : List ℕ → Type 0) (keeps : Keeps P) where
     pub kept-by-one-step : (level vector : ℕ) → InSlots (one-step s m level vector)
     unfolding one-step interrupt
     kept-by-one-step level vector =
-        pick-cases InSlots (eqb level 7 || ltb (sr-of s / Mask % 8) level)
+        pick-cases InSlots (eqb level TopLevel || ltb (sr-of s / Mask % 8) level)
         (kept-by-exception s m h vector (interrupt-sr (sr-of s) level) (λ v. keeps .interrupting s v 6 vector level h))
         (pick-cases InSlots (eqb (mode-of s) Running) kept-by-instruction h)
 

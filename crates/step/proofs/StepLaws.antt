@@ -7,6 +7,7 @@ use mathlib.Core.Bool.{Bool, true, false, _&&_, _||_, not}
 use mathlib.Core.List.{List}
 use lib.Dec.{ltb, eqb}
 use borrow.Author.Tests.{eqb-true, not-true}
+use Rattle.codes.specs.Codes.{Mask, TopLevel}
 use Rattle.bits.specs.Bits.{pick, bit}
 use Rattle.bits.proofs.BitsLaws.{and-left, and-right}
 use Rattle.bus.specs.declared.Flow.{Flow}
@@ -184,11 +185,11 @@ module _ (s m : List ℕ) (level vector : ℕ) where
   unfolding interrupt
   interrupt-is sr e = cc
 
-  pub step-interrupted : (eqb level 7 || ltb (sr-of s / 256 % 8) level) ≡ true → interrupt s m level vector ≡ one-step s m level vector
+  pub step-interrupted : (eqb level TopLevel || ltb (sr-of s / Mask % 8) level) ≡ true → interrupt s m level vector ≡ one-step s m level vector
   unfolding one-step
   step-interrupted h = cc
 
-  module _ (h : (eqb level 7 || ltb (sr-of s / 256 % 8) level) ≡ false) where
+  module _ (h : (eqb level TopLevel || ltb (sr-of s / Mask % 8) level) ≡ false) where
     pub step-instruction : eqb (mode-of s) 0 ≡ true → instruction s m ≡ one-step s m level vector
     unfolding one-step
     step-instruction k = cc

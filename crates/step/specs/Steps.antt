@@ -5,8 +5,8 @@ use Prim.Native.Nat.{ℕ, _+_, _*_, _%_, _/_}
 use mathlib.Core.Bool.{Bool, true, false, _&&_, _||_, not}
 use mathlib.Core.List.{List}
 use lib.Dec.{ltb, eqb}
-use Rattle.codes.specs.Codes.{Running, Mask, Supervisor, IllegalWord, Privilege, Tracing, Line1010, Line1111, NoVector, Stop, NoEvent, HaltEvent}
-use Rattle.codes.specs.Codes.{NoWrite}
+use Rattle.codes.specs.Codes.{Running, Mask, Supervisor, TopLevel, IllegalInstruction, PrivilegeViolation, TraceVector, Line1010, Line1111}
+use Rattle.codes.specs.Codes.{NoVector, StopCode, NoEvent, HaltEvent, NoWrite}
 use Rattle.bits.specs.Bits.{pick, bit}
 use Rattle.bus.specs.declared.Flow.{Flow}
 use Rattle.bus.specs.Bus.{View, view-of, next-word, room, put-sized}
@@ -44,7 +44,7 @@ commit m r p = pick (ltb (p .write) NoWrite) (put-sized m (p .at) (p .write) (p 
 
 -- the vector of a plan's trap, or none: a stop is no trap  [01 step 2]
 unfoldable pub trap-of : Plan → ℕ
-trap-of p = pick (ltb (p .vector) Stop) (p .vector) NoVector
+trap-of p = pick (ltb (p .vector) StopCode) (p .vector) NoVector
 
 -- the exception of a vector, and nothing where there is none  [ours]
 unfoldable pub take-trap : List ℕ → List ℕ → ℕ → Stepped
@@ -52,7 +52,7 @@ take-trap s m vec = pick (ltb NoVector vec) (exception s m vec (supervisor-sr (s
 
 -- trace follows if T was 1 at the start, unless the instruction was refused or the machine halted  [01 step 5]
 unfoldable pub traced : ℕ → Bool → ℕ → ℕ
-traced vec trace event = bit (trace && not (eqb vec IllegalWord || eqb vec Privilege || eqb vec Line1010 || eqb vec Line1111) && not (eqb event HaltEvent)) * Tracing
+traced vec trace event = bit (trace && not (eqb vec IllegalInstruction || eqb vec PrivilegeViolation || eqb vec Line1010 || eqb vec Line1111) && not (eqb event HaltEvent)) * TraceVector
 
 -- the trap, then the trace, whose "next" is the trap's handler; the first event counts  [01 step 3] [01 step 5]
 unfoldable pub both : List ℕ → List ℕ → ℕ → Bool → Stepped
@@ -63,7 +63,7 @@ both s m vec trace =
 
 -- an instruction that writes takes no trap; one that takes a trap writes nothing  [01 step 5] [01 step 6]
 unfoldable pub carry-out : List ℕ → List ℕ → List ℕ → Plan → Bool → Stepped
-carry-out s m r p trace = pick (eqb (p .write) NoWrite) (both s m (trap-of p) trace) (take-trap s (commit m r p) (pick trace Tracing NoVector))
+carry-out s m r p trace = pick (eqb (p .write) NoWrite) (both s m (trap-of p) trace) (take-trap s (commit m r p) (pick trace TraceVector NoVector))
 
 -- the end of an instruction; one that faults keeps nothing of its work  [01 step 7]
 unfoldable pub conclude : List ℕ → List ℕ → List ℕ → Tried → Stepped
@@ -86,5 +86,5 @@ interrupt s m level vector = exception s m vector (interrupt-sr (sr-of s) level)
 -- level 7, or above the mask: the interrupt; else a machine that does not run changes nothing; else one instruction  [01 One step]
 unfoldable pub one-step : List ℕ → List ℕ → ℕ → ℕ → Stepped
 one-step s m level vector =
-    pick (eqb level 7 || ltb (sr-of s / Mask % 8) level) (interrupt s m level vector)
+    pick (eqb level TopLevel || ltb (sr-of s / Mask % 8) level) (interrupt s m level vector)
     (pick (eqb (mode-of s) Running) (instruction s m) (record { s = s; m = m; event = NoEvent }))

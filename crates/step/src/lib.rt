@@ -76,7 +76,7 @@ fn commit(mem: &mut [u8], log: &mut [u64], r: &[u32; SLOTS], p: Plan) -> usize
 fn trap_of(p: Plan) -> u32
     ensures { λ q. ⌜ q ≡ trap-of p ⌝ }
 {
-    let some = p.vector < codes::STOP;
+    let some = p.vector < codes::STOP_CODE;
     if some {
         return p.vector;
     }
@@ -106,12 +106,12 @@ fn take_trap(s: &mut [u32; SLOTS], mem: &mut [u8], log: &mut [u64], n: usize, ve
 fn traced(vec: u32, trace: bool, event: u32) -> u32
     ensures { λ r. ⌜ r ≡ traced vec trace event ⌝ }
 {
-    let refused = (vec == codes::ILLEGAL_WORD)
-        | (vec == codes::PRIVILEGE)
+    let refused = (vec == codes::ILLEGAL_INSTRUCTION)
+        | (vec == codes::PRIVILEGE_VIOLATION)
         | (vec == codes::LINE1010)
         | (vec == codes::LINE1111);
     let halted = event == codes::HALT_EVENT;
-    bits::bit(trace & !refused & !halted) * codes::TRACING
+    bits::bit(trace & !refused & !halted) * codes::TRACE_VECTOR
 }
 
 // A trap, and the trace after it: the first event counts.
@@ -166,7 +166,7 @@ fn carry_out(
     let n = commit(mem, log, r, p);
     bank::settle(r, s, p);
     if trace {
-        return take_trap(r, mem, log, n, codes::TRACING);
+        return take_trap(r, mem, log, n, codes::TRACE_VECTOR);
     }
     Ended {
         n,
@@ -263,7 +263,7 @@ pub fn one_step(
     ensures { λ e. ⌜ Noted (now (mem .entry)) (now (log .entry)) 0 70 (now (mem .exit)) (now (log .exit)) (e .n) ⌝ }
 {
     let mask = s[codes::SR] / codes::MASK % 8;
-    let taken = (level == 7) | (mask < level);
+    let taken = (level == codes::TOP_LEVEL) | (mask < level);
     if taken {
         return interrupt(s, mem, log, level, vector);
     }

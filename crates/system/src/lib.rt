@@ -136,7 +136,7 @@ pub fn stop(mem: &[u8], f: Flow) -> Plan
     if supervisor {
         return plan::stopping(bus::with_sr(g, w.value));
     }
-    plan::refusing(codes::PRIVILEGE, bits::minus(f.pc, 2), g)
+    plan::refusing(codes::PRIVILEGE_VIOLATION, bits::minus(f.pc, 2), g)
 }
 
 // TRAP.
@@ -152,7 +152,7 @@ pub fn trap_overflow(f: Flow) -> Plan
 {
     let over = flags::v_of(f.sr);
     if over {
-        return plan::trapping(codes::OVERFLOW, f);
+        return plan::trapping(codes::TRAPV_INSTRUCTION, f);
     }
     plan::nothing(f)
 }
@@ -167,7 +167,7 @@ pub fn check_bounds(r: &mut [u32; SLOTS], mem: &[u8], op: u32, f: Flow) -> Plan
     let h = plan::flagged(g, a.ccr);
     let outside = a.value == 1;
     if outside {
-        return plan::trapping(codes::OUT_OF_BOUNDS, h);
+        return plan::trapping(codes::CHK_INSTRUCTION, h);
     }
     plan::nothing(h)
 }
