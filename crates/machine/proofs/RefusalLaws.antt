@@ -22,7 +22,8 @@ use Rattle.undo.specs.declared.Answer.{Answer}
 use Rattle.undo.specs.declared.Answer.the-variants.{Done, Refused}
 use Rattle.undo.specs.Undo.{Outcome, none, well-formed, undo-of}
 use Rattle.undo.proofs.UndoLaws.{undo-when-none, none-when-refused}
-use Rattle.machine.specs.Calls.{memory-fits, state-fits, reset-number, reset-call, refused-slots, step-number, step-taken, step-call}
+use Rattle.machine.specs.Calls.{StepCall, RunCall, memory-fits, state-fits, reset-number, reset-call, refused-slots, step-number, step-taken}
+use Rattle.machine.specs.Calls.{step-call}
 use Rattle.machine.specs.Calls.{run-number, running, run-call, undo-number, undo-answer, undo-call}
 use Rattle.machine.specs.Refusals.{Line, Given, zero-at-end, this, later, NoneApplies, BadMemory, odd, short, long, BadState, stray-bit}
 use Rattle.machine.specs.Refusals.{no-mode, memory-line, state-line, reset-table, step-table, run-table, undo-table}
@@ -144,6 +145,14 @@ reset-refused m h = go (memory-fits m) refl
     go true e = absurd (h (rw e))
     go false e = rw e
 
+-- the number n of a call: it is taken where n is 0, and else refused with n
+call-number : {A : Type 0} (f : A → ℕ) (n : ℕ) (t r : A) → f t ≡ 0 → f r ≡ n → f (pick (eqb n 0) t r) ≡ n
+call-number f n t r taken refused = go (eqb n 0) refl
+  where
+    go : (b : Bool) → eqb n 0 ≡ b → f (pick b t r) ≡ n
+    go true e = taken ∙ sym (eqb-true n 0 e)
+    go false e = refused
+
 -- ---- step
 module _ (s m : List ℕ) (level : ℕ) (j : List ℕ) (mark : ℕ) where
   step-given : Given (step-table s m level j mark) (step-number s m level j mark)
@@ -155,11 +164,7 @@ module _ (s m : List ℕ) (level : ℕ) (j : List ℕ) (mark : ℕ) where
   module _ (vector : ℕ) where
     pub step-call-number : step-call s m level vector j mark .a .number ≡ step-number s m level j mark
     unfolding step-call step-taken
-    step-call-number = go (eqb (step-number s m level j mark) 0) refl
-      where
-        go : (b : Bool) → eqb (step-number s m level j mark) 0 ≡ b → step-call s m level vector j mark .a .number ≡ step-number s m level j mark
-        go true e = rw e (sym (eqb-true (step-number s m level j mark) 0 e))
-        go false e = rw e
+    step-call-number = call-number (λ (c : StepCall). c .a .number) (step-number s m level j mark) _ _ refl refl
 
     pub step-verdict : Verdict (step-table s m level j mark) (step-call s m level vector j mark .a .number)
     step-verdict = verdict (step-table s m level j mark) (step-call s m level vector j mark .a .number) (omega arith) (rw step-call-number step-given)
@@ -229,11 +234,7 @@ module _ (s m : List ℕ) (budget : ℕ) (j : List ℕ) (mark : ℕ) where
   module _ (stop : ℕ) where
     pub run-call-number : run-call s m budget stop j mark .a .number ≡ run-number s m budget j mark
     unfolding run-call
-    run-call-number = go (eqb (run-number s m budget j mark) 0) refl
-      where
-        go : (b : Bool) → eqb (run-number s m budget j mark) 0 ≡ b → run-call s m budget stop j mark .a .number ≡ run-number s m budget j mark
-        go true e = rw e (running-number budget 0 stop s m j mark ∙ sym (eqb-true (run-number s m budget j mark) 0 e))
-        go false e = rw e
+    run-call-number = call-number (λ (c : RunCall). c .a .number) (run-number s m budget j mark) _ _ (running-number budget 0 stop s m j mark) refl
 
     pub run-verdict : Verdict (run-table s m budget j mark) (run-call s m budget stop j mark .a .number)
     run-verdict = verdict (run-table s m budget j mark) (run-call s m budget stop j mark .a .number) (omega arith) (rw run-call-number run-given)
