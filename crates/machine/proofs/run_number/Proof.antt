@@ -8,6 +8,7 @@ pub run-number-spec : {M : Type 1} → statement M
 unfolding run-number
 run-number-spec =
     tie.close (tie.spec
-    (λ c κs. search needs) (λ c. search (refuse-not, pass-not, refuse, pass)) (λ c κs. search needs) (λ c. search (refuse-not, pass-not, refuse, pass))
+    (λ c κs. search needs) (λ c. search (refuse-not, pass-not, refuse, pass))
+    (λ c κs. search needs) (λ c. search (refuse-not, pass-not, refuse, pass))
     (λ c. search (refuse-not, pass-not, refuse, pass)) (λ c. search (refuse-not, pass-not, refuse, pass))
     (λ c. search (refuse-not, pass-not, refuse, pass)))

@@ -21,7 +21,8 @@ pub step-number-spec : {M : Type 1} → statement M
 unfolding step-number
 step-number-spec =
     tie.close (tie.spec
-    (λ c κs. search needs) (λ c. search (refuse-not, pass-not, refuse, pass)) (λ c κs. search needs) (λ c. search (refuse-not, pass-not, refuse, pass))
+    (λ c κs. search needs) (λ c. search (refuse-not, pass-not, refuse, pass))
+    (λ c κs. search needs) (λ c. search (refuse-not, pass-not, refuse, pass))
     (λ c. search (refuse-not, pass-not, refuse, pass)) (λ c. search (refuse-not, pass-not, refuse, pass))
     (λ c. search needs) (λ c. search (refuse-not, pass-not, refuse, pass)) (λ c. search needs)
     (λ c. passed (c .before .before) (refuse _ _ _ _ (c .if6 .taken) refl)) (λ c. passed (c .before .before) (pass _ _ _ _ (c .if6 .left) refl)))

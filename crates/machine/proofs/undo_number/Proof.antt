@@ -8,6 +8,7 @@ pub undo-number-spec : {M : Type 1} → statement M
 unfolding undo-number
 undo-number-spec =
     tie.close (tie.spec
-    (λ c κs. search needs) (λ c. search (refuse-not, pass-not, refuse, pass)) (λ c κs. search needs) (λ c. search (refuse-not, pass-not, refuse, pass))
+    (λ c κs. search needs) (λ c. search (refuse-not, pass-not, refuse, pass))
+    (λ c κs. search needs) (λ c. search (refuse-not, pass-not, refuse, pass))
     (λ c. search (refuse-not, pass-not, refuse, pass)) (λ c. search (refuse-not, pass-not, refuse, pass))
     (λ c. search (refuse-not, pass-not, refuse, pass)))

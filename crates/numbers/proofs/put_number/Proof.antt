@@ -4,7 +4,6 @@ use mathlib.Core.Path.{_≡_, ap}
 use mathlib.Core.List.{List, [], _∷_}
 use native.Mathlib.Omega.{arith}
 use lib.ListN.{length, length-set}
-use denote.Ref.{now}
 use borrow.Author.Needs.{needs}
 use Rattle.numbers.specs.Number.{number-bytes}
 use Rattle.numbers.proofs.PutLaws.{number-bytes-two, number-bytes-three, number-bytes-four, number-bytes-five, put-each}
@@ -36,90 +35,24 @@ four c = number-bytes-four (c .before .before .before .before .before .args .v) 
 five : (c : tie.Else4) → let v = c .before .before .before .before .before .args .v in number-bytes v ≡ v / 268435456 ∷ rest-five v
 five c = number-bytes-five (c .before .before .before .before .before .args .v) (c .if4 .left) (omega arith)
 
-returns-2 : tie.Need-returns-2
-returns-2 c =
-    let s = c .before .before .before in
-    put-each (now (s .args .journal)) (s .args .at) (s .args .v) (s .args .v / 128) (rest-two (s .args .v)) (two c) (s .pre)
-
-returns-3 : tie.Need-returns-3
-returns-3 c =
-    let s = c .before .before .before .before in
-    put-each (now (s .args .journal)) (s .args .at) (s .args .v) (s .args .v / 16384) (rest-three (s .args .v)) (three c) (s .pre)
-
-returns-4 : tie.Need-returns-4
-returns-4 c =
-    let s = c .before .before .before .before .before in
-    put-each (now (s .args .journal)) (s .args .at) (s .args .v) (s .args .v / 2097152) (rest-four (s .args .v)) (four c) (s .pre)
-
-returns-5 : tie.Need-returns-5
-returns-5 c =
-    let s = c .before .before .before .before .before in
-    put-each (now (s .args .journal)) (s .args .at) (s .args .v) (s .args .v / 268435456) (rest-five (s .args .v)) (five c) (s .pre)
-
 pub put-number-spec : {M : Type 1} → statement M
 put-number-spec =
-    tie.close
-    (tie.spec
-    (λ c κs. search needs)
-    (λ c. search needs)
-    (λ c. search needs)
-    (λ c. search needs)
-    (λ c. omega (arith, ap length (two c)))
-    (λ c. search needs)
-    (λ c. search needs)
-    (λ c. search needs)
-    (λ c. simp length-set (omega (arith, ap length (two c))))
-    (λ c. search needs)
-    (λ c. search needs)
-    returns-2
-    (λ c. search needs)
-    (λ c. omega (arith, ap length (three c)))
-    (λ c. search needs)
-    (λ c. search needs)
-    (λ c. search needs)
-    (λ c. simp length-set (omega (arith, ap length (three c))))
-    (λ c. search needs)
-    (λ c. search needs)
-    (λ c. search needs)
-    (λ c. simp length-set (omega (arith, ap length (three c))))
-    (λ c. search needs)
-    (λ c. search needs)
-    returns-3
-    (λ c. search needs)
-    (λ c. omega (arith, ap length (four c)))
-    (λ c. search needs)
-    (λ c. search needs)
-    (λ c. search needs)
-    (λ c. simp length-set (omega (arith, ap length (four c))))
-    (λ c. search needs)
-    (λ c. search needs)
-    (λ c. search needs)
-    (λ c. simp length-set (omega (arith, ap length (four c))))
-    (λ c. search needs)
-    (λ c. search needs)
-    (λ c. search needs)
-    (λ c. simp length-set (omega (arith, ap length (four c))))
-    (λ c. search needs)
-    (λ c. search needs)
-    returns-4
-    (λ c. search needs)
-    (λ c. omega (arith, ap length (five c)))
-    (λ c. search needs)
-    (λ c. search needs)
-    (λ c. search needs)
-    (λ c. simp length-set (omega (arith, ap length (five c))))
-    (λ c. search needs)
-    (λ c. search needs)
-    (λ c. search needs)
-    (λ c. simp length-set (omega (arith, ap length (five c))))
-    (λ c. search needs)
-    (λ c. search needs)
-    (λ c. search needs)
-    (λ c. simp length-set (omega (arith, ap length (five c))))
-    (λ c. search needs)
-    (λ c. search needs)
-    (λ c. search needs)
-    (λ c. simp length-set (omega (arith, ap length (five c))))
-    (λ c. search needs)
-    (λ c. search needs)
-    returns-5)
+    tie.close (tie.spec
+    (λ c κs. search needs) (λ c. search needs) (λ c. search needs) (λ c. search needs) (λ c. omega (arith, ap length (two c)))
+    (λ c. search needs) (λ c. search needs) (λ c. search needs) (λ c. simp length-set (omega (arith, ap length (two c))))
+    (λ c. search needs) (λ c. search needs) (λ c. put-each _ _ _ _ _ (two c) (c .before .before .before .pre))
+    (λ c. search needs) (λ c. omega (arith, ap length (three c)))
+    (λ c. search needs) (λ c. search needs) (λ c. search needs) (λ c. simp length-set (omega (arith, ap length (three c))))
+    (λ c. search needs) (λ c. search needs) (λ c. search needs) (λ c. simp length-set (omega (arith, ap length (three c))))
+    (λ c. search needs) (λ c. search needs) (λ c. put-each _ _ _ _ _ (three c) (c .before .before .before .before .pre))
+    (λ c. search needs) (λ c. omega (arith, ap length (four c)))
+    (λ c. search needs) (λ c. search needs) (λ c. search needs) (λ c. simp length-set (omega (arith, ap length (four c))))
+    (λ c. search needs) (λ c. search needs) (λ c. search needs) (λ c. simp length-set (omega (arith, ap length (four c))))
+    (λ c. search needs) (λ c. search needs) (λ c. search needs) (λ c. simp length-set (omega (arith, ap length (four c))))
+    (λ c. search needs) (λ c. search needs) (λ c. put-each _ _ _ _ _ (four c) (c .before .before .before .before .before .pre))
+    (λ c. search needs) (λ c. omega (arith, ap length (five c)))
+    (λ c. search needs) (λ c. search needs) (λ c. search needs) (λ c. simp length-set (omega (arith, ap length (five c))))
+    (λ c. search needs) (λ c. search needs) (λ c. search needs) (λ c. simp length-set (omega (arith, ap length (five c))))
+    (λ c. search needs) (λ c. search needs) (λ c. search needs) (λ c. simp length-set (omega (arith, ap length (five c))))
+    (λ c. search needs) (λ c. search needs) (λ c. search needs) (λ c. simp length-set (omega (arith, ap length (five c))))
+    (λ c. search needs) (λ c. search needs) (λ c. put-each _ _ _ _ _ (five c) (c .before .before .before .before .before .pre)))
