@@ -1,7 +1,7 @@
 -- Exceptions.antt - what an exception leaves of slots and memory, and its event.
 -- Not modelled: interrupt acknowledge and the levels' own vectors (the host names the vector).
 -- Laws: proofs/ExceptionLaws.antt.  Source: [003 4.3], [003 4.4], [01 step 1], [01 step 7], [01 step 8].
-use Prim.Native.Nat.{ℕ, _+_, _*_, _%_, _/_}
+use Prim.Native.Nat.{ℕ, _+_, _*_, _%_}
 use mathlib.Core.Bool.{Bool}
 use mathlib.Core.List.{List}
 use lib.ListN.{getD, set}

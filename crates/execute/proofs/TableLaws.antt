@@ -3,7 +3,7 @@
 -- Uses: decode.
 use Prim.Native.Nat.{ℕ}
 use mathlib.Core.Path.{_≡_, refl}
-use mathlib.Core.List.{List, [], _∷_, map}
+use mathlib.Core.List.{[], _∷_, map}
 use Rattle.execute.specs.Dispatch.{Instruction, refused-kind, movement-kind, integer-kind, logical-kind, control-kind, system-kind, dispatch}
 use Rattle.execute.specs.Table.{table}
 

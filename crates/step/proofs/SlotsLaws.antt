@@ -15,7 +15,7 @@ use Rattle.bus.specs.Bus.{View, view-of, read-long, fault-vector}
 use Rattle.record.specs.Limits.{slot-limit}
 use Rattle.plan.specs.declared.Plan.{Plan}
 use Rattle.bank.specs.Bank.{long, ssp-of, pc-of, sr-of, mode-of, tracing, bank, settle}
-use Rattle.exception.specs.Exceptions.{Stepped, fresh, supervisor-sr, halted, enter, small-room, exception, big-room, fault-taken, fault}
+use Rattle.exception.specs.Exceptions.{Stepped, fresh, supervisor-sr, enter, small-room, exception, big-room, fault-taken, fault}
 use Rattle.step.specs.declared.Tried.{Tried}
 use Rattle.step.specs.Steps.{conclude, attempt, commit, trap-of, take-trap, traced, both, carry-out, instruction, interrupt-sr, interrupt}
 use Rattle.step.specs.Steps.{one-step}
