@@ -4,6 +4,7 @@
 use Prim.Native.Nat.{ℕ, _+_, _*_}
 use mathlib.Core.List.{List, [], _∷_}
 use lib.Dec.{ltb}
+use Rattle.codes.specs.Codes.{A0, BlockDown}
 use Rattle.bus.specs.declared.Flow.{Flow}
 use Rattle.bus.specs.Bus.{View, view-of}
 use Rattle.plan.specs.Plans.{Done, writing}
@@ -22,7 +23,7 @@ zeros = record { byte-ok = λ a. ltb a 4096; word-ok = λ a. ltb (a + 1) 4096; b
 
 -- the fault of a block of longs to -(A0) with A7 and A6, or with none  [ours]
 abbrev fault-down : ℕ → ℕ → ℕ
-fault-down a list = block-room zeros (writing 7 a (list + 65536 * 8) fresh) .bad
+fault-down a list = block-room zeros (writing (BlockDown + 1) a (list + 65536 * A0) fresh) .bad
 
 -- MOVEM.L A0,-(A0): memory afterwards, and A0  [ours]
 abbrev saved : Done

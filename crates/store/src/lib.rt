@@ -1,6 +1,6 @@
 // lib.rt - the puts of a step: what stood at each place is noted in the touch log, then the new bytes are put.
 // Means: put-byte, put-word, put-long, put-sized of bus; Noted of touch.  Laws: proofs/StoreLaws.antt.
-// Uses: codes, touch, bus, bits, record, numbers.  Source: [01 The journal], [01 step 6].
+// Uses: codes, touch, bus, bits.  Source: [01 The journal], [01 step 6].
 use touch::above;
 use touch::write_above;
 use touch::write_byte;

@@ -1,6 +1,6 @@
 // lib.rt - the touch log of a step: each place that is written, ascending, with the value that it had as the step began.
 // Means: specs/Touch.antt.  Laws: proofs/TouchLaws.antt, proofs/RoomLaws.antt.
-// Uses: record, numbers, bits.  Source: [01 The journal].
+// Uses: record, bits.  Source: [01 The journal].
 ghost use mathlib.Core.Path.{_≡_};
 ghost use mathlib.Core.Bool.{true};
 ghost use Prim.Native.Nat.{_+_, _≤_, _<_, _^_};
