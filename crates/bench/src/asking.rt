@@ -98,7 +98,7 @@ pub fn count_of(text: &[u8]) -> u64 {
 
 // The longest memory that the stack has room for, as far as that is told.
 fn most_memory() -> u64 {
-    if stack::is_large() {
+    if stack_limit::is_large() {
         return 16777216;
     }
     65536

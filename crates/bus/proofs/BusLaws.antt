@@ -11,7 +11,6 @@ use Rattle.bits.specs.Bits.{plus, by-size}
 use Rattle.bus.specs.declared.Flow.{Flow}
 use Rattle.bus.specs.declared.Fetched.{Fetched}
 use Rattle.bus.specs.Bus.{View, view-of, pins, failed, with-pc, read-byte, read-word, read-long, read-sized, room, next-word, next-long}
-use Rattle.bus.specs.Bus.{put-byte, put-word, put-long, put-sized}
 
 abbrev fetched : ℕ → Flow → Fetched
 fetched v f = record { value = v; flow = f }
@@ -73,12 +72,3 @@ module _ (v : View) (f : Flow) where
   pub next-long-is : (h l : Fetched) → h ≡ next-word v f → l ≡ next-word v (h .flow) → fetched (h .value * 65536 + l .value) (l .flow) ≡ next-long v f
   unfolding next-long
   next-long-is h l p q = cc
-
-module _ (m : List ℕ) (a v : ℕ) where
-  pub put-word-is : (n o : List ℕ) (b : ℕ) → n ≡ put-byte m a (v / 256) → b ≡ plus a 1 → o ≡ put-byte n b v → o ≡ put-word m a v
-  unfolding put-word
-  put-word-is n o b p e q = cc
-
-  pub put-long-is : (n o : List ℕ) (b : ℕ) → n ≡ put-word m a (v / 65536) → b ≡ plus a 2 → o ≡ put-word n b v → o ≡ put-long m a v
-  unfolding put-long
-  put-long-is n o b p e q = cc

@@ -1,11 +1,9 @@
-// lib.rt - lent memory of any length: reads with their faults, room for a write, puts, and the words of an instruction in turn.
+// lib.rt - lent memory of any length: reads with their faults, room for a write, and the words of an instruction in turn.
 // Means: specs/Bus.antt.  Laws: proofs/BusLaws.antt.
 // Uses: codes, bits.  Source: [003 2.2], [003 4.2], [01 What the box emulates], [01 step 6], [01 step 7].
 ghost use mathlib.Core.Path.{_≡_};
 ghost use Prim.Native.Nat.{ℕ, _+_, _*_, _%_, _/_, _<_, _≤_};
-ghost use lib.ListN.{set};
 ghost use Rattle.bus.specs.Bus.{view-of, failed, with-pc, with-sr, read-byte, read-word, read-long, read-sized, room, next-word, next-long};
-ghost use Rattle.bus.specs.Bus.{put-byte, put-word, put-long, put-sized};
 
 // Where an instruction stands: the next word's address, the status register, and the fault so far, 0 if none: the 24-bit address
 // of the access times 256, the information word times 4, and the vector, 2 or 3.
@@ -185,44 +183,4 @@ pub fn next_long(mem: &[u8], f: Flow) -> Fetched
         value: h.value * 65536 + l.value,
         flow: lf,
     }
-}
-
-// A byte is put where the address lies in memory; elsewhere nothing is.
-pub fn put_byte(mem: &mut [u8], a: u32, v: u32)
-    ensures { λ _. ⌜ now (mem .exit) ≡ put-byte (now (mem .entry)) a v ⌝ }
-{
-    let i = (a % codes::ADDRESSES) as usize;
-    if i < mem.len() {
-        mem[i] = (v % 256) as u8;
-    }
-}
-
-pub fn put_word(mem: &mut [u8], a: u32, v: u32)
-    ensures { λ _. ⌜ now (mem .exit) ≡ put-word (now (mem .entry)) a v ⌝ }
-{
-    put_byte(mem, a, v / 256);
-    put_byte(mem, std::num::wrapping_add_u32(a, 1), v);
-}
-
-pub fn put_long(mem: &mut [u8], a: u32, v: u32)
-    ensures { λ _. ⌜ now (mem .exit) ≡ put-long (now (mem .entry)) a v ⌝ }
-{
-    put_word(mem, a, v / 65536);
-    put_word(mem, std::num::wrapping_add_u32(a, 2), v);
-}
-
-pub fn put_sized(mem: &mut [u8], a: u32, z: u32, v: u32)
-    ensures { λ _. ⌜ now (mem .exit) ≡ put-sized (now (mem .entry)) a z v ⌝ }
-{
-    let byte = z == 0;
-    let word = z == 1;
-    if byte {
-        put_byte(mem, a, v);
-        return;
-    }
-    if word {
-        put_word(mem, a, v);
-        return;
-    }
-    put_long(mem, a, v);
 }

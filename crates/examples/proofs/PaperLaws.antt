@@ -9,7 +9,7 @@ use Rattle.operand.specs.Operands as Operands
 use Rattle.plan.specs.Plans as Plans
 use Rattle.alu.specs.Alu as Alu
 use Rattle.decimal.specs.Decimal as Decimal
-use Rattle.signed.specs.Signed as Signed
+use Rattle.multiply_divide.specs.MultiplyDivide as MultiplyDivide
 use Rattle.decode.specs.Rows as Rows
 use Rattle.movement.specs.Movement as Movement
 use Rattle.control.specs.Control as Control
@@ -35,8 +35,8 @@ unfolding Bits.iter Bits.by-size Bits.sign-byte Bits.sign-word
     Plans.finish Plans.push Plans.quick
     Alu.sum Alu.difference Alu.concluded Alu.continued Alu.compare Alu.moved Alu.bit-number Alu.bit-changed Alu.bit-operation Alu.tas Alu.check
     Decimal.decimal-result Decimal.decimal-add Decimal.decimal-subtract
-    Signed.signed-long Signed.signed-word Signed.low-long Signed.outside-word Signed.product-result Signed.multiply-signed Signed.zero-divide
-    Signed.quotient-result Signed.divide-signed Signed.divide-unsigned
+    MultiplyDivide.signed-long MultiplyDivide.signed-word MultiplyDivide.low-long MultiplyDivide.outside-word MultiplyDivide.product-result MultiplyDivide.multiply-signed MultiplyDivide.zero-divide
+    MultiplyDivide.quotient-result MultiplyDivide.divide-signed MultiplyDivide.divide-unsigned
     Rows.rows Rows.fits Rows.first Rows.kind-in Rows.kind-of Rows.privileged
     Movement.move-size Movement.move-operands Movement.move-data Movement.move-address Movement.move-quick Movement.load-address
     Movement.push-address Movement.exchange Movement.swap Movement.link Movement.unlink Movement.every-other-word Movement.every-other

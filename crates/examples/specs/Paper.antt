@@ -10,7 +10,7 @@ use Rattle.numbers.specs.Number.{number-bytes}
 use Rattle.numbers.specs.Examples.{NumberRow, number-rows}
 use Rattle.record.specs.Change.{step-record}
 use Rattle.decimal.specs.Examples.{decimal-examples}
-use Rattle.signed.specs.Examples.{signed-examples}
+use Rattle.multiply_divide.specs.Examples.{signed-examples}
 use Rattle.step.specs.Steps.{one-step}
 
 -- twenty slots: D0, A0 and SR as given, PC $200, SSP $400, all else 0  [ours]

@@ -12,8 +12,8 @@ ghost use Rattle.integer.specs.Integer.{paired, compare-memory, unary, e
 use bus::Flow;
 use codes::SLOTS;
 use flags::Flagged;
+use multiply_divide::Divided;
 use plan::Plan;
-use signed::Divided;
 
 // Destination a and source b, by the number of the operation; the definition lists the numbers.
 fn binary(which: u32, a: u32, b: u32, old: u32, z: u32) -> Flagged
@@ -71,8 +71,8 @@ fn product_by(which: u32, a: u32, b: u32, old: u32) -> Flagged
     ensures { λ c. ⌜ c ≡ product-by which a b old ⌝ }
 {
     match which {
-        0 => signed::multiply_signed(a, b, old),
-        _ => signed::multiply_unsigned(a, b, old),
+        0 => multiply_divide::multiply_signed(a, b, old),
+        _ => multiply_divide::multiply_unsigned(a, b, old),
     }
 }
 
@@ -81,8 +81,8 @@ fn quotient_by(which: u32, a: u32, b: u32, old: u32) -> Divided
     ensures { λ c. ⌜ c ≡ quotient-by which a b old ⌝ }
 {
     match which {
-        0 => signed::divide_signed(a, b, old),
-        _ => signed::divide_unsigned(a, b, old),
+        0 => multiply_divide::divide_signed(a, b, old),
+        _ => multiply_divide::divide_unsigned(a, b, old),
     }
 }
 

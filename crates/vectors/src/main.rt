@@ -1,11 +1,11 @@
 // main.rt - reads cases from standard input, a line each, and counts those that agree, differ and are skipped.
 // Means: nothing; proved safe.
-// Uses: case, listing, stack, io, libc, os.  Source: [01 Set down and proved], crates/vectors/README.md.
-use case::AGREES;
-use case::SKIPPED;
+// Uses: cases, stack_limit, io, libc, os.  Source: [01 Set down and proved], crates/vectors/README.md.
+use cases::lines::NO_MORE;
+use cases::lines::Reading;
+use cases::trying::AGREES;
+use cases::trying::SKIPPED;
 use libc::STDOUT_FILENO;
-use listing::lines::NO_MORE;
-use listing::lines::Reading;
 
 // how many of the cases that differ are named
 const NAMED: u64 = 20;
@@ -28,8 +28,8 @@ fn one_more(n: u64) -> u64 {
 fn counted(t: Tally, found: u32) -> Tally {
     let mut next = t;
     match found {
-        case::AGREES => next.agree = one_more(t.agree),
-        case::SKIPPED => next.skipped = one_more(t.skipped),
+        cases::trying::AGREES => next.agree = one_more(t.agree),
+        cases::trying::SKIPPED => next.skipped = one_more(t.skipped),
         _ => next.differ = one_more(t.differ),
     }
     next
@@ -37,16 +37,16 @@ fn counted(t: Tally, found: u32) -> Tally {
 
 fn write_reason(found: u32) -> bool {
     match found {
-        case::MALFORMED => io::write_all(STDOUT_FILENO, b": no case\n"),
-        case::STEP_REFUSED => io::write_all(STDOUT_FILENO, b": the step is refused\n"),
-        case::STEP_SLOTS => io::write_all(STDOUT_FILENO, b": slots after the step\n"),
-        case::STEP_MEMORY => io::write_all(STDOUT_FILENO, b": memory after the step\n"),
-        case::STEP_MARK => io::write_all(STDOUT_FILENO, b": mark after the step\n"),
-        case::STEP_JOURNAL => io::write_all(STDOUT_FILENO, b": journal after the step\n"),
-        case::UNDO_REFUSED => io::write_all(STDOUT_FILENO, b": the undo is refused\n"),
-        case::UNDO_SLOTS => io::write_all(STDOUT_FILENO, b": slots after the undo\n"),
-        case::UNDO_MEMORY => io::write_all(STDOUT_FILENO, b": memory after the undo\n"),
-        case::UNDO_MARK => io::write_all(STDOUT_FILENO, b": mark after the undo\n"),
+        cases::trying::MALFORMED => io::write_all(STDOUT_FILENO, b": no case\n"),
+        cases::trying::STEP_REFUSED => io::write_all(STDOUT_FILENO, b": the step is refused\n"),
+        cases::trying::STEP_SLOTS => io::write_all(STDOUT_FILENO, b": slots after the step\n"),
+        cases::trying::STEP_MEMORY => io::write_all(STDOUT_FILENO, b": memory after the step\n"),
+        cases::trying::STEP_MARK => io::write_all(STDOUT_FILENO, b": mark after the step\n"),
+        cases::trying::STEP_JOURNAL => io::write_all(STDOUT_FILENO, b": journal after the step\n"),
+        cases::trying::UNDO_REFUSED => io::write_all(STDOUT_FILENO, b": the undo is refused\n"),
+        cases::trying::UNDO_SLOTS => io::write_all(STDOUT_FILENO, b": slots after the undo\n"),
+        cases::trying::UNDO_MEMORY => io::write_all(STDOUT_FILENO, b": memory after the undo\n"),
+        cases::trying::UNDO_MARK => io::write_all(STDOUT_FILENO, b": mark after the undo\n"),
         _ => true,
     }
 }
@@ -65,7 +65,7 @@ fn report(found: u32, before: Tally, number: u64, text: &[u8]) {
     io::write_all(STDOUT_FILENO, b"line ");
     io::print_decimal(STDOUT_FILENO, number);
     io::write_all(STDOUT_FILENO, b" ");
-    io::write_all(STDOUT_FILENO, listing::text::piece(text, b' ', 0));
+    io::write_all(STDOUT_FILENO, cases::text::piece(text, b' ', 0));
     write_reason(found);
 }
 
@@ -93,7 +93,7 @@ fn room_of(line: &[u8], r: Reading) -> usize {
     if line.len() < r.length {
         return 0;
     }
-    case::memory_length(text_of(line, r))
+    cases::trying::memory_length(text_of(line, r))
 }
 
 fn try_small(
@@ -102,7 +102,7 @@ fn try_small(
     memory: &mut [u8; 65536],
     wanted: &mut [u8; 65536],
 ) -> Progress {
-    reported(p, text, case::try_case(text, memory, wanted))
+    reported(p, text, cases::trying::try_case(text, memory, wanted))
 }
 
 fn try_large(
@@ -111,7 +111,7 @@ fn try_large(
     memory: &mut [u8; 16777216],
     wanted: &mut [u8; 16777216],
 ) -> Progress {
-    reported(p, text, case::try_case(text, memory, wanted))
+    reported(p, text, cases::trying::try_case(text, memory, wanted))
 }
 
 fn small_case(p: Progress, line: &[u8]) -> Progress {
@@ -127,7 +127,7 @@ fn large_case(p: Progress, line: &[u8]) -> Progress {
 }
 
 fn read_line(p: Progress, chunk: &mut [u8], line: &mut [u8]) -> Progress {
-    let reading = listing::lines::next_line(p.reading, chunk, line);
+    let reading = cases::lines::next_line(p.reading, chunk, line);
     let tally = p.tally;
     Progress { reading, tally }
 }
@@ -148,7 +148,7 @@ fn try_lines(k: u32, large: bool, p: Progress, chunk: &mut [u8], line: &mut [u8]
     }
     let n = room_of(line, q.reading);
     if n == 0 {
-        return reported(q, text_of(line, q.reading), case::MALFORMED);
+        return reported(q, text_of(line, q.reading), cases::trying::MALFORMED);
     }
     if n <= 65536 {
         return small_case(q, line);
@@ -177,14 +177,14 @@ fn write_tally(t: Tally) {
 
 fn try_all(chunk: &mut [u8; 65536], line: &mut [u8; 8192]) {
     let p = Progress {
-        reading: listing::lines::start(),
+        reading: cases::lines::start(),
         tally: Tally {
             agree: 0,
             differ: 0,
             skipped: 0,
         },
     };
-    let q = try_lines(40, stack::is_large(), p, chunk, line);
+    let q = try_lines(40, stack_limit::is_large(), p, chunk, line);
     write_tally(q.tally);
 }
 

@@ -1,0 +1,25 @@
+use Prim.Native.Nat.{_≤_, _-_}
+use lib.ListN.{length}
+use borrow.Author.Needs.{needs}
+use Rattle.cases.proofs.setting.same.Statement.{statement}
+use Rattle.cases.proofs.setting.same.Tie as tie
+
+abbrev Inv-loop : tie.InvT-loop
+Inv-loop a b d₀ i₀ i-end d i = i ≤ length a
+
+abbrev μ-loop : tie.MeasureT-loop
+μ-loop a b d₀ i₀ i-end d i = length a - i
+
+pub same-spec : {M : Type 1} → statement M
+same-spec =
+    tie.close (tie.spec
+    Inv-loop
+    μ-loop
+    (λ c. search needs)
+    (λ c. search needs)
+    (λ c. search needs)
+    (λ c. search needs)
+    (λ c. search needs)
+    (λ c. search needs)
+    (λ c. search needs)
+    (λ c. search needs))

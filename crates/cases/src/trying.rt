@@ -1,0 +1,249 @@
+// trying.rt - one case: its step and the undo of it, each compared whole with what the line lists.
+// Means: nothing; proved safe.
+// Uses: codes, machine.  Source: [01 Calls and what they give back], crates/vectors/README.md.
+use crate::setting::change_slots;
+use crate::setting::fill;
+use crate::setting::put_bytes;
+use crate::setting::put_runs;
+use crate::setting::put_slots;
+use crate::setting::same;
+use crate::setting::same_slots;
+use crate::text::NO_NUMBER;
+use crate::text::marks;
+use crate::text::number;
+use crate::text::piece;
+use codes::SLOTS;
+
+pub const AGREES: u32 = 0;
+
+pub const SKIPPED: u32 = 1;
+
+pub const MALFORMED: u32 = 2;
+
+pub const STEP_REFUSED: u32 = 3;
+
+pub const STEP_SLOTS: u32 = 4;
+
+pub const STEP_MEMORY: u32 = 5;
+
+pub const STEP_MARK: u32 = 6;
+
+pub const STEP_JOURNAL: u32 = 7;
+
+pub const UNDO_REFUSED: u32 = 8;
+
+pub const UNDO_SLOTS: u32 = 9;
+
+pub const UNDO_MEMORY: u32 = 10;
+
+pub const UNDO_MARK: u32 = 11;
+
+// the mark that a step is given: bytes before it are seen to stay
+const MARK: usize = 1000;
+
+// Field k of a line, counted from 0.
+fn field(text: &[u8], k: usize) -> &[u8] {
+    piece(text, b' ', k)
+}
+
+// The mark after the step.
+fn next_mark(text: &[u8]) -> usize {
+    MARK + field(text, 9).len() / 2
+}
+
+// Slots and memory before the step.
+fn put_before(text: &[u8], slots: &mut [u32; SLOTS], memory: &mut [u8]) -> bool {
+    let slots_good = put_slots(field(text, 5), slots);
+    let runs_good = put_runs(field(text, 6), memory, false);
+    slots_good & runs_good
+}
+
+// What the step is to change of them, and its record.
+fn put_after(text: &[u8], slots: &mut [u32; SLOTS], memory: &mut [u8], journal: &mut [u8]) -> bool {
+    let slots_good = change_slots(field(text, 7), slots);
+    let runs_good = put_runs(field(text, 8), memory, false);
+    let record_good = put_bytes(field(text, 9), journal, MARK, false);
+    slots_good & runs_good & record_good
+}
+
+// An answer's refusal and mark.
+struct Answer {
+    number: u32,
+    mark: usize,
+}
+
+fn step(
+    slots: &mut [u32; SLOTS],
+    memory: &mut [u8],
+    level: u32,
+    vector: u8,
+    journal: &mut [u8],
+) -> Answer {
+    let answer = machine::step(slots, memory, level, vector, journal, MARK);
+    Answer {
+        number: answer.number,
+        mark: answer.mark,
+    }
+}
+
+fn undo(slots: &mut [u32; SLOTS], memory: &mut [u8], journal: &[u8], mark: usize) -> Answer {
+    let answer = machine::undo(slots, memory, journal, mark);
+    Answer {
+        number: answer.number,
+        mark: answer.mark,
+    }
+}
+
+// Takes the step, and compares with the goal.
+fn compare_step(
+    text: &[u8],
+    slots: &mut [u32; SLOTS],
+    goal: &[u32; SLOTS],
+    memory: &mut [u8],
+    wanted: &[u8],
+    journal: &mut [u8],
+    record: &[u8],
+) -> u32 {
+    let level = number(field(text, 3));
+    let vector = number(field(text, 4));
+    if NO_NUMBER <= level {
+        return MALFORMED;
+    }
+    if 255 < vector {
+        return MALFORMED;
+    }
+    let answer = step(slots, memory, level as u32, vector as u8, journal);
+    if answer.number != 0 {
+        return STEP_REFUSED;
+    }
+    if !same_slots(slots, goal) {
+        return STEP_SLOTS;
+    }
+    if !same(memory, wanted) {
+        return STEP_MEMORY;
+    }
+    if answer.mark != next_mark(text) {
+        return STEP_MARK;
+    }
+    if !same(journal, record) {
+        return STEP_JOURNAL;
+    }
+    AGREES
+}
+
+// Undoes the step, and compares with what was before it.
+fn compare_undo(
+    text: &[u8],
+    slots: &mut [u32; SLOTS],
+    goal: &[u32; SLOTS],
+    memory: &mut [u8],
+    wanted: &[u8],
+    journal: &[u8],
+) -> u32 {
+    let answer = undo(slots, memory, journal, next_mark(text));
+    if answer.number != 0 {
+        return UNDO_REFUSED;
+    }
+    if !same_slots(slots, goal) {
+        return UNDO_SLOTS;
+    }
+    if !same(memory, wanted) {
+        return UNDO_MEMORY;
+    }
+    if answer.mark != MARK {
+        return UNDO_MARK;
+    }
+    AGREES
+}
+
+// Both, where the goal and what is wanted are those after the step.
+fn compare_both(
+    text: &[u8],
+    slots: &mut [u32; SLOTS],
+    goal: &mut [u32; SLOTS],
+    memory: &mut [u8],
+    wanted: &mut [u8],
+    journal: &mut [u8],
+    record: &[u8],
+) -> u32 {
+    let found = compare_step(text, slots, goal, memory, wanted, journal, record);
+    if found != AGREES {
+        return found;
+    }
+    put_runs(field(text, 8), wanted, true);
+    put_before(text, goal, wanted);
+    compare_undo(text, slots, goal, memory, wanted, journal)
+}
+
+fn with_journals(
+    text: &[u8],
+    memory: &mut [u8],
+    wanted: &mut [u8],
+    journal: &mut [u8],
+    record: &mut [u8],
+) -> u32 {
+    let mut slots = [0u32; SLOTS];
+    let mut goal = [0u32; SLOTS];
+    if !put_before(text, &mut slots, memory) {
+        return MALFORMED;
+    }
+    if !put_before(text, &mut goal, wanted) {
+        return MALFORMED;
+    }
+    if !put_after(text, &mut goal, wanted, record) {
+        return MALFORMED;
+    }
+    compare_both(text, &mut slots, &mut goal, memory, wanted, journal, record)
+}
+
+fn with_filled(
+    text: &[u8],
+    memory: &mut [u8],
+    wanted: &mut [u8],
+    journal: &mut [u8; 4096],
+    record: &mut [u8; 4096],
+) -> u32 {
+    fill(journal);
+    fill(record);
+    with_journals(text, memory, wanted, journal, record)
+}
+
+// A case on two memories that are all 0.
+fn on_zeros(text: &[u8], memory: &mut [u8], wanted: &mut [u8]) -> u32 {
+    let mut journal = [0u8; 4096];
+    let mut record = [0u8; 4096];
+    with_filled(text, memory, wanted, &mut journal, &mut record)
+}
+
+// The length of a case's memory, or 0 if the line is no case.
+pub fn memory_length(text: &[u8]) -> usize {
+    if marks(text, b' ') != 9 {
+        return 0;
+    }
+    let n = number(field(text, 2));
+    if n < 1024 {
+        return 0;
+    }
+    if 16777216 < n {
+        return 0;
+    }
+    if n % 2 != 0 {
+        return 0;
+    }
+    n as usize
+}
+
+// What a line shows, on a part of two memories that are all 0.
+pub fn try_case(text: &[u8], memory: &mut [u8], wanted: &mut [u8]) -> u32 {
+    let n = memory_length(text);
+    if n == 0 {
+        return MALFORMED;
+    }
+    if memory.len() < n {
+        return SKIPPED;
+    }
+    if wanted.len() < n {
+        return SKIPPED;
+    }
+    on_zeros(text, &mut memory[0..n], &mut wanted[0..n])
+}

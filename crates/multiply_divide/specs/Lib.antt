@@ -1,0 +1,2 @@
+pub mod MultiplyDivide
+pub mod Examples
