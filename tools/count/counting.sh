@@ -3,16 +3,18 @@
 # Source: [ours].
 #
 # COUNTER=qemu counts by the plugin executed.c for qemu-user, on any machine; COUNTER=valgrind by callgrind, on x86-64,
-# slower, and within one in a thousand of the other. Unless it is said: the first of the two that is there. Debian's
-# qemu-user and gcc are installed if neither is and this is root.
+# slower, and within one in a thousand of the other. Unless it is said: the first of the two that is there. Nothing is
+# installed: what is missing is said.
 die() { printf '%s: %s\n' "$(basename "$0")" "$*" >&2; exit 2; }
 
-# Installs a package if its command is missing.
-need() { # COMMAND PACKAGES..
-    command -v "$1" >/dev/null && return
+# Ends with words if one of the commands is missing.
+need() { # PACKAGES COMMANDS..
+    packages=$1
     shift
-    [ "$(id -u)" = 0 ] && command -v apt-get >/dev/null || die "install these packages first: $*"
-    apt-get install -y --no-install-recommends "$@" >/dev/null 2>&1 || die "apt-get could not install: $*"
+    for command in "$@"; do
+        command -v "$command" >/dev/null ||
+            die "$command is missing. On Debian, as root: apt-get install --no-install-recommends $packages"
+    done
 }
 
 is_steps() { case $1 in '' | *[!0-9]* | 0*) die "STEPS is a number, 1 or more" ;; esac; }
@@ -39,8 +41,7 @@ start_counting() {
     fi
     case $counter in
     qemu)
-        need qemu-x86_64 qemu-user
-        need gcc gcc libc6-dev
+        need "qemu-user gcc libc6-dev" qemu-x86_64 gcc
         major=$(qemu-x86_64 --version | sed -n '1s/.* version \([0-9]*\).*/\1/p')
         version=1
         [ "${major:-0}" -lt 9 ] || version=2
