@@ -96,7 +96,9 @@ enum ibz_reason {
   IBZ_REASON_ADDRESS = 5  /* PC is the stop address, in all 32 bits */
 };
 
-/* `event` of a step that was done: IBZ_EVENT_NONE, IBZ_EVENT_HALT, or 1 more than the vector of the first exception that it took. */
+/* `event` of a step that was done: IBZ_EVENT_NONE, or 1 more than the vector of the first exception that it took, or IBZ_EVENT_HALT
+ * where that one's frame could not be written. A trap whose trace then halts the machine gives the trap's event: whether the machine is
+ * halted is told by the block's mode. */
 #define IBZ_EVENT_NONE 0u
 #define IBZ_EVENT_HALT 257u
 
