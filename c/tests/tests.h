@@ -49,4 +49,8 @@ static inline uint32_t any(void) {
 }
 
 static inline uint32_t below(uint32_t n) { return (uint32_t)((uint64_t)any() * n >> 32); }
+
+#ifdef WRONG
+#include "wrong.h"
+#endif
 #endif

@@ -1,0 +1,58 @@
+/* wrong.h - the calls with one mistake each, to test the tests: built with -DWRONG=N, N from 1 to WRONG_CALLS, calls.c or garbage.c must
+ * fail. kit/check tries each. Read by tests.h; after it the tests' calls are the wrong ones. */
+#ifndef WRONG_H
+#define WRONG_H
+#define WRONG_CALLS 16
+
+/* What was lent, before an undo. */
+static uint8_t wrong_block[IBZ_BLOCK_LENGTH], wrong_memory[65536];
+
+static inline struct ibz_reset_answer wrong_reset(uint8_t *block, size_t block_length, const uint8_t *memory, size_t memory_length) {
+  struct ibz_reset_answer a = ibz_reset(block, block_length, memory, memory_length);
+  if (WRONG == 1 && a.number == IBZ_NO_BLOCK) a.number = IBZ_BAD_MEMORY; /* 1 before 9 */
+  if (WRONG == 2 && a.number == IBZ_BAD_MEMORY) ibz_set(block, IBZ_MODE, IBZ_MODE_RUNNING); /* refused, and the machine runs */
+  return a;
+}
+
+static inline struct ibz_step_answer wrong_step(uint8_t *block, size_t block_length, uint8_t *memory, size_t memory_length,
+                                                uint32_t level, uint8_t vector, uint8_t *journal, size_t journal_length, size_t mark) {
+  if (WRONG == 3) level &= 0xFFu; /* the level is cut */
+  if (WRONG == 4) vector = 0;     /* the vector is dropped */
+  struct ibz_step_answer a = ibz_step(block, block_length, memory, memory_length, level, vector, journal, journal_length, mark);
+  if (WRONG == 5 && a.number != IBZ_DONE && block_length == IBZ_BLOCK_LENGTH) block[0] ^= 1; /* a refusal alters the block */
+  if (WRONG == 6 && a.number == IBZ_DONE && a.mark < journal_length) journal[a.mark] ^= 1;   /* a byte past the record */
+  if (WRONG == 7 && a.number == IBZ_DONE) a.mark++;
+  if (WRONG == 8) a.event = IBZ_EVENT_NONE;
+  if (WRONG == 9 && a.number == IBZ_DONE) memory[memory_length - 1] ^= 1; /* a byte of memory that no record has */
+  return a;
+}
+
+static inline struct ibz_run_answer wrong_run(uint8_t *block, size_t block_length, uint8_t *memory, size_t memory_length, uint32_t budget,
+                                              uint32_t stop, uint8_t *journal, size_t journal_length, size_t mark) {
+  struct ibz_run_answer a = ibz_run(block, block_length, memory, memory_length, budget, stop, journal, journal_length, mark);
+  if (WRONG == 10 && a.number == IBZ_DONE) a.steps = budget; /* the count is invented */
+  if (WRONG == 11 && a.number == IBZ_DONE) a.reason = IBZ_REASON_BUDGET;
+  return a;
+}
+
+static inline struct ibz_undo_answer wrong_undo(uint8_t *block, size_t block_length, uint8_t *memory, size_t memory_length,
+                                                const uint8_t *journal, size_t journal_length, size_t mark) {
+  const int keeps = block_length == IBZ_BLOCK_LENGTH && memory_length <= sizeof wrong_memory;
+  if (keeps) memcpy(wrong_block, block, sizeof wrong_block), memcpy(wrong_memory, memory, memory_length);
+  struct ibz_undo_answer a = ibz_undo(block, block_length, memory, memory_length, journal, journal_length, mark);
+  if (WRONG == 12 && keeps) memcpy(block, wrong_block, sizeof wrong_block); /* only memory goes back */
+  if (WRONG == 13 && keeps) memcpy(memory, wrong_memory, memory_length);    /* only the slots go back */
+  if (WRONG == 14 && a.number == IBZ_DONE) a.mark = mark;                   /* the mark stays */
+  if (WRONG == 15 && a.number == IBZ_BAD_RECORD) a.number = IBZ_NO_RECORD;
+  if (WRONG == 16 && block_length == IBZ_BLOCK_LENGTH) { /* a byte past memory is read */
+    const volatile uint8_t *past = memory + memory_length;
+    (void)*past;
+  }
+  return a;
+}
+
+#define ibz_reset wrong_reset
+#define ibz_step wrong_step
+#define ibz_run wrong_run
+#define ibz_undo wrong_undo
+#endif
