@@ -139,7 +139,7 @@ record-after r a =
     let t = one-step (a .slots) (a .memory) (r .level) (r .vector) in
     step-record (a .slots) (t .s) (a .memory) (t .m)
 
--- one step by the definition of demand 2; the mark grows by its record  [00 demand 3]
+-- one step by the definition of demand 2; the mark grows by its record  [00 demand 2] [00 demand 3]
 unfoldable pub one-more : Request → Seen → Seen
 one-more r a =
     let t = one-step (a .slots) (a .memory) (r .level) (r .vector) in
