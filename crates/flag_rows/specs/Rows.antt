@@ -79,7 +79,7 @@ outside-unsigned o = ltb 65535 (o .a / (o .b % 65536))
 abbrev pub by-quotient : Divided → Flagged
 by-quotient d = record { value = d .value % 65536; ccr = d .ccr }
 
--- a shift's side, by its kind here: 1 is left  [ours]
+-- a shift to the left: the operands have kind 1  [ours]
 abbrev pub to-left : Operands → Bool
 to-left o = eqb (o .k) 1
 
