@@ -1,6 +1,6 @@
 // lib.rt - the bank of registers that an instruction sees, out of the twenty slots, and the slots after the instruction.
 // Means: specs/Bank.antt.  Laws: proofs/BankLaws.antt.
-// Uses: codes, bits, flags, bus, plan.  Source: [01 What the box emulates, State], [01 step 4], [01 step 5].
+// Uses: codes, bits, flags, bus, plan.  Source: [003 2.13.1], [003 4.2], [01 State], [01 step 5], [01 Easy slips].
 ghost use mathlib.Core.Path.{_≡_};
 ghost use Prim.Native.Nat.{ℕ, _+_, _*_, _%_, _/_, _<_, _≤_};
 ghost use lib.ListN.{getD, set};

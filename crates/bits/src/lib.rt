@@ -1,6 +1,6 @@
 // lib.rt - numbers of 8, 16 and 32 bits: cut to a size, sign, differences, parts replaced. Knows no 68000.
 // Means: specs/Bits.antt.  Laws: proofs/BitsLaws.antt.
-// Uses: nothing.  Source: [003 1.4], [ours].
+// Uses: nothing.  Source: [003 2.2], [003 B.4], [ours].
 ghost use mathlib.Core.Path.{_≡_};
 ghost use Prim.Native.Nat.{ℕ, _+_, _*_, _%_, _/_, _<_, _≤_};
 ghost use Rattle.bits.specs.Bits.{bit, modulus, half, low, minus, joined, sign-byte, sign-word, sign-extended};

@@ -1,6 +1,6 @@
 -- Bus.antt - what an access to lent memory gives: a value, or the fault that the instruction then carries; and what a put leaves.
--- Not modelled: bus cycles, prefetch. The instruction layers read memory only through a `View`; the window of K7 and the ROM of K10
--- will change how a view is made and nothing above. Laws: proofs/BusLaws.antt.  Source: [003 2.2], [003 4.2], [01 step 6], [01 step 7].
+-- Not modelled: bus cycles, prefetch. The instruction layers read memory only through a `View`: K7's window and K10's ROM will change how
+-- a view is made and nothing above. Laws: proofs/BusLaws.antt.  Source: [003 2.4], [003 4-1], [003 4.4.9], [003 4.4.10], [01 step 6], [01 step 7].
 use Prim.Native.Nat.{ℕ, _+_, _*_, _%_, _/_}
 use mathlib.Core.Bool.{Bool}
 use mathlib.Core.List.{List}
@@ -11,7 +11,7 @@ use Rattle.bits.specs.Bits.{pick, plus, by-size}
 use Rattle.bus.specs.declared.Flow.{Flow}
 use Rattle.bus.specs.declared.Fetched.{Fetched}
 
--- the 24 bits of an address that leave the chip  [01 What the box emulates, Memory]
+-- the 24 bits of an address that leave the chip  [003 4.3.1] [01 Memory]
 abbrev pub pins : ℕ → ℕ
 pins a = a % Addresses
 
@@ -22,7 +22,7 @@ pub record View : Type 0 where
   pub byte : ℕ → ℕ
   pub word : ℕ → ℕ
 
--- all of a lent memory, high byte first  [01 What the box emulates, Memory]
+-- all of a lent memory, high byte first  [003 2.4] [01 Memory]
 unfoldable pub view-of : List ℕ → View
 view-of m = record {
   byte-ok = λ a. ltb a (length m);
@@ -31,20 +31,23 @@ view-of m = record {
   word = λ a. pick (ltb (a + 1) (length m)) (getD m a 0 * 256 + getD m (a + 1) 0) 0;
 }
 
--- a fault in one number, never 0: the address, the information word, the vector; and each of the three as it is read again  [01 step 7]
+-- a fault in one number, never 0: the address, the information word, the vector  [ours] [01 step 7]
 abbrev pub packed : ℕ → ℕ → ℕ → ℕ
 packed address information vec = address % Addresses * 256 + information * 4 + vec % 4
 
+-- the address of a fault in one number  [ours]
 abbrev pub fault-address : ℕ → ℕ
 fault-address bad = bad / 256
 
+-- its information word  [ours]
 abbrev pub fault-information : ℕ → ℕ
 fault-information bad = bad / 4 % 64
 
+-- its vector  [ours]
 abbrev pub fault-vector : ℕ → ℕ
 fault-vector bad = bad % 4
 
--- the information word of an access of kind k: the supervisor's function codes are 4 more than the user's  [01 step 7]
+-- the information word of an access of kind k: the supervisor's function codes are 4 more than the user's  [003 4-1] [01 step 7]
 abbrev pub information : ℕ → ℕ → ℕ
 information k sr = k % 32 + sr / Supervisor % 2 * 4
 
@@ -52,10 +55,11 @@ information k sr = k % 32 + sr / Supervisor % 2 * 4
 abbrev pub failed : Flow → ℕ → ℕ → ℕ → Flow
 failed f vec p k = record { pc = f .pc; sr = f .sr; bad = packed p (information k (f .sr)) vec }
 
--- the flow with another PC, with another SR  [ours]
+-- the flow with another PC  [ours]
 abbrev pub with-pc : Flow → ℕ → Flow
 with-pc f p = record { pc = p; sr = f .sr; bad = f .bad }
 
+-- the flow with another SR  [ours]
 abbrev pub with-sr : Flow → ℕ → Flow
 with-sr f sr = record { pc = f .pc; sr = sr; bad = f .bad }
 
@@ -63,13 +67,13 @@ with-sr f sr = record { pc = f .pc; sr = sr; bad = f .bad }
 abbrev pub unless-failed : Flow → Fetched → Fetched
 unless-failed f w = pick (eqb (f .bad) 0) w (record { value = 0; flow = f })
 
--- a byte outside memory is a bus error  [01 step 6]
+-- a byte outside memory is a bus error  [003 4.4.9] [01 step 6]
 unfoldable pub read-byte : View → ℕ → ℕ → Flow → Fetched
 read-byte v a k f =
     unless-failed f
     (pick (v .byte-ok (pins a)) (record { value = v .byte (pins a); flow = f }) (record { value = 0; flow = failed f BusError (pins a) k }))
 
--- a word at an odd address is an address error, one outside memory a bus error; odd is asked first  [01 step 6]
+-- a word at an odd address is an address error, one outside memory a bus error; odd is asked first  [003 4.4.10] [003 4.4.9] [01 step 6]
 unfoldable pub read-word : View → ℕ → ℕ → Flow → Fetched
 read-word v a k f =
     unless-failed f
@@ -79,13 +83,14 @@ read-word v a k f =
     (record { value = v .word (pins a); flow = f })
     (record { value = 0; flow = failed f BusError (pins a) k })))
 
--- a long is two words, the upper first  [01 step 6]
+-- a long is two words, the upper first  [003 2.4] [01 step 6]
 unfoldable pub read-long : View → ℕ → ℕ → Flow → Fetched
 read-long v a k f =
     let h = read-word v a k f in
     let l = read-word v (plus a 2) k (h .flow) in
     record { value = h .value * 65536 + l .value; flow = l .flow }
 
+-- by a size: a byte, a word or a long  [003 2.2]
 unfoldable pub read-sized : View → ℕ → ℕ → ℕ → Flow → Fetched
 read-sized v a z k f = by-size z (read-byte v a k f) (read-word v a k f) (read-long v a k f)
 
@@ -93,10 +98,11 @@ read-sized v a z k f = by-size z (read-byte v a k f) (read-word v a k f) (read-l
 unfoldable pub room : View → ℕ → ℕ → Flow → Flow
 room v a z f = read-sized v a z DataWrite f .flow
 
--- the next word of the instruction: a program read  [01 step 7]
+-- the next word of the instruction: a program read  [003 2.7] [01 step 7]
 unfoldable pub next-word : View → Flow → Fetched
 next-word v f = let w = read-word v (f .pc) ProgramRead f in record { value = w .value; flow = with-pc (w .flow) (plus (f .pc) 2) }
 
+-- the next two words of it, the upper first  [01 step 6]
 unfoldable pub next-long : View → Flow → Fetched
 next-long v f =
     let h = next-word v f in
@@ -107,12 +113,14 @@ next-long v f =
 abbrev pub put-byte : List ℕ → ℕ → ℕ → List ℕ
 put-byte m a v = set m (pins a) (v % 256)
 
--- high byte first  [01 What the box emulates, Memory]
+-- high byte first  [003 2.4] [01 Memory]
 unfoldable pub put-word : List ℕ → ℕ → ℕ → List ℕ
 put-word m a v = put-byte (put-byte m a (v / 256)) (plus a 1) v
 
+-- upper word first  [003 2.4] [01 step 6]
 unfoldable pub put-long : List ℕ → ℕ → ℕ → List ℕ
 put-long m a v = put-word (put-word m a (v / 65536)) (plus a 2) v
 
+-- by a size: a byte, a word or a long  [003 2.2]
 unfoldable pub put-sized : List ℕ → ℕ → ℕ → ℕ → List ℕ
 put-sized m a z v = by-size z (put-byte m a v) (put-word m a v) (put-long m a v)

@@ -1,6 +1,6 @@
 // lib.rt - lent memory of any length: reads with their faults, room for a write, and the words of an instruction in turn.
 // Means: specs/Bus.antt.  Laws: proofs/BusLaws.antt.
-// Uses: codes, bits.  Source: [003 2.2], [003 4.2], [01 What the box emulates], [01 step 6], [01 step 7].
+// Uses: codes, bits.  Source: [003 2.4], [003 4-1], [003 4.4.9], [003 4.4.10], [01 Memory], [01 step 6], [01 step 7].
 ghost use mathlib.Core.Path.{_≡_};
 ghost use Prim.Native.Nat.{ℕ, _+_, _*_, _%_, _/_, _<_, _≤_};
 ghost use Rattle.bus.specs.Bus.{view-of, failed, with-pc, with-sr, read-byte, read-word, read-long, read-sized, room, next-word, next-long};

@@ -1,9 +1,9 @@
--- Codes.antt - the numbers that stand for something, each by one name: sizes, slots and registers, modes, SR's bits, vectors, events, accesses, writes.
+-- Codes.antt - the numbers that stand for something, each by one name: sizes, slots, registers, modes, SR's bits, vectors, events, accesses, writes.
 -- Means of: src/lib.rt (DataRead here is DATA_READ there: underscores before capitals). Kinds of instruction: Kinds.antt of decode.
--- Uses: nothing.  Source: [003 1.2], [003 2.2], [003 2.11], [003 4.3], [01 What the box emulates, State], [01 step 1] to [01 step 8]; the rest is [ours].
+-- Uses: nothing.  Source: each group's own; a heading of four dashes speaks for all that stands under it.
 use Prim.Native.Nat.{ℕ, _+_}
 
--- ---- sizes, as an operation word's size field has them  [003 2.2]
+-- ---- sizes, as an operation word's size field has them  [003 2.2] [003 B ADDI]
 abbrev pub Byte : ℕ
 Byte = 0
 
@@ -13,7 +13,7 @@ Word = 1
 abbrev pub Long : ℕ
 Long = 2
 
--- ---- the slots of a state: 0 to 7 D0 to D7, 8 to 14 A0 to A6, and these; how many there are  [01 What the box emulates, State]
+-- ---- the slots of a state: 0 to 7 D0 to D7, 8 to 14 A0 to A6, and these; how many there are  [01 State]
 abbrev pub Usp : ℕ
 Usp = 15
 
@@ -32,7 +32,7 @@ Mode = 19
 abbrev pub Slots : ℕ
 Slots = 20
 
--- the values of the slot Mode  [01 What the box emulates, State]
+-- ---- the values of the slot Mode  [01 State]
 abbrev pub Running : ℕ
 Running = 0
 
@@ -42,7 +42,7 @@ Stopped = 1
 abbrev pub Halted : ℕ
 Halted = 2
 
--- how many there are
+-- how many values that slot has  [01 State]
 abbrev pub Modes : ℕ
 Modes = 3
 
@@ -60,7 +60,7 @@ UserStack = 16
 abbrev pub NoRegister : ℕ
 NoRegister = 17
 
--- ---- the status register: flags below $20, the mask's lowest bit, S, T; SR after a reset  [003 1.2] [01 What the box emulates, State]
+-- ---- the status register: flags below $20, the mask's lowest bit, S, T  [003 1.2] [01 State]
 abbrev pub FlagValues : ℕ
 FlagValues = 0x0020
 
@@ -73,10 +73,11 @@ Supervisor = 0x2000
 abbrev pub Trace : ℕ
 Trace = 0x8000
 
+-- SR after a reset: S is set and the mask is 7  [003 4.4.1] [01 Calls, Reset]
 abbrev pub ResetStatus : ℕ
 ResetStatus = 0x2700
 
--- ---- how many addresses there are, the least and the most bytes of a memory  [01 What the box emulates, Memory] [01 Calls, table]
+-- ---- how many addresses there are, the least and the most bytes of a memory  [01 Memory] [01 Calls, table]
 abbrev pub Addresses : ℕ
 Addresses = 0x1000000
 
@@ -86,14 +87,14 @@ LeastMemory = 1024
 abbrev pub MostMemory : ℕ
 MostMemory = 16777216
 
--- the highest level of a request, and the most steps of a run  [01 Calls, table]
+-- ---- the highest level of a request, and the most steps of a run  [01 Calls, table]
 abbrev pub TopLevel : ℕ
 TopLevel = 7
 
 abbrev pub MostSteps : ℕ
 MostSteps = 1000000
 
--- ---- exception vectors  [003 4.3] [01 step 2]
+-- ---- exception vectors  [003 4-2] [01 step 2]
 abbrev pub BusError : ℕ
 BusError = 2
 
@@ -124,7 +125,7 @@ Line1010 = 10
 abbrev pub Line1111 : ℕ
 Line1111 = 11
 
--- TRAP #0; the other fifteen follow
+-- TRAP #0; the other fifteen follow  [003 4-2] [01 step 2]
 abbrev pub FirstTrap : ℕ
 FirstTrap = 32
 
@@ -135,17 +136,18 @@ NoVector = 0
 abbrev pub StopCode : ℕ
 StopCode = 0x100
 
--- ---- a step's event: none, 1 more than the vector that was taken first, a halt  [01 Calls, step]
+-- ---- a step's event: none, 1 more than the vector that was taken first, a halt  [ours]
 abbrev pub NoEvent : ℕ
 NoEvent = 0
 
 abbrev pub HaltEvent : ℕ
 HaltEvent = 0x101
 
+-- the event of a vector that was taken  [ours]
 abbrev pub event-of : ℕ → ℕ
 event-of vec = vec + 1
 
--- ---- kinds of access, as the information word in user state; the supervisor's function codes are 4 more  [01 step 7]
+-- ---- kinds of access, as the information word in user state; the supervisor's function codes are 4 more  [003 4-1] [01 step 7]
 abbrev pub DataRead : ℕ
 DataRead = 0x11
 
@@ -179,14 +181,14 @@ BlockDown = 6
 abbrev pub EveryOther : ℕ
 EveryOther = 8
 
--- half of the code of MOVEM's block, words or longs
+-- ---- half of the code of MOVEM's block, words or longs  [ours]
 abbrev pub Upward : ℕ
 Upward = 2
 
 abbrev pub Downward : ℕ
 Downward = 3
 
--- ---- addressing modes that definitions name  [003 2.11]
+-- ---- addressing modes that definitions name  [003 2-1]
 abbrev pub InData : ℕ
 InData = 0
 
@@ -199,7 +201,7 @@ Predecrement = 4
 abbrev pub Displaced : ℕ
 Displaced = 5
 
--- the stack pointer's register number in a mode  [003 2-1]
+-- the stack pointer's register number in a mode  [003 2.13.1]
 abbrev pub StackPointer : ℕ
 StackPointer = 7
 
@@ -222,7 +224,7 @@ Or = 4
 abbrev pub ExclusiveOr : ℕ
 ExclusiveOr = 5
 
--- those that go on from a part before  [003 B ADDX SUBX ABCD SBCD]
+-- ---- those that go on from a part before  [003 B ADDX SUBX ABCD SBCD]
 abbrev pub AddExtended : ℕ
 AddExtended = 0
 
@@ -235,7 +237,7 @@ AddDecimal = 2
 abbrev pub SubtractDecimal : ℕ
 SubtractDecimal = 3
 
--- those with one operand  [003 B NEG NEGX NOT CLR NBCD TAS EXT]
+-- ---- those with one operand  [003 B NEG NEGX NOT CLR NBCD TAS EXT]
 abbrev pub Negate : ℕ
 Negate = 0
 
@@ -257,7 +259,7 @@ TestAndSet = 5
 abbrev pub Extend : ℕ
 Extend = 6
 
--- MULS, DIVS and MULU, DIVU  [003 B MULS MULU DIVS DIVU]
+-- ---- MULS, DIVS and MULU, DIVU  [003 B MULS MULU DIVS DIVU]
 abbrev pub Signed : ℕ
 Signed = 0
 

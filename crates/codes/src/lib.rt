@@ -1,4 +1,4 @@
-// lib.rt - the numbers that stand for something, each by one name: sizes, slots and registers, modes, SR's bits, vectors, events, accesses, writes.
+// lib.rt - the numbers that stand for something, each by one name: sizes, slots, registers, modes, SR's bits, vectors, events, accesses, writes.
 // Means: specs/Codes.antt (DATA_READ here is DataRead there: underscores before capitals). No code: constants alone.
 // Uses: nothing.  Source: as in specs/Codes.antt.
 

@@ -1,6 +1,6 @@
 -- Exceptions.antt - what an exception leaves of slots and memory, and its event.
 -- Not modelled: interrupt acknowledge and the levels' own vectors (the host names the vector).
--- Laws: proofs/ExceptionLaws.antt.  Source: [003 4.3], [003 4.4], [01 step 1], [01 step 7], [01 step 8].
+-- Laws: proofs/ExceptionLaws.antt.  Source: [003 4.3.5], [003 4.4.9], [003 4.4.10], [01 step 1], [01 step 7], [01 step 8].
 use Prim.Native.Nat.{ℕ, _+_, _*_, _%_}
 use mathlib.Core.Bool.{Bool}
 use mathlib.Core.List.{List}
@@ -22,15 +22,15 @@ pub record Stepped : Type 0 where
 abbrev pub fresh : ℕ → ℕ → Flow
 fresh pc sr = record { pc = pc; sr = sr; bad = 0 }
 
--- S set, T clear  [01 step 1]
+-- S set, T clear  [003 4.3.5] [01 step 1]
 abbrev pub supervisor-sr : ℕ → ℕ
 supervisor-sr sr = Supervisor + sr % Supervisor
 
--- a frame that cannot be written whole halts the machine, and nothing else changes  [01 step 8]
+-- a frame that cannot be written whole halts the machine, and nothing else changes  [003 4.4.9.1] [01 step 8]
 abbrev pub halted : List ℕ → List ℕ → Stepped
 halted s m = record { s = set s Mode Halted; m = m; event = HaltEvent }
 
--- SSP at the frame, PC from vector number times 4, running  [01 step 1]
+-- SSP at the frame, PC from vector number times 4, running  [003 4.3.1] [003 4.3.5] [01 step 1]
 unfoldable pub enter : List ℕ → View → ℕ → ℕ → ℕ → List ℕ
 enter s v a vec sr = set (set (set (set s Ssp a) Pc (long (read-long v (vec % 256 * 4) DataRead (fresh 0 0) .value))) Sr sr) Mode Running
 
@@ -38,10 +38,11 @@ enter s v a vec sr = set (set (set (set s Ssp a) Pc (long (read-long v (vec % 25
 unfoldable pub small-room : View → ℕ → Bool
 small-room v a = eqb (room v (plus a 2) Long (room v a Word (fresh 0 0)) .bad) 0
 
+-- those six bytes written  [003 4.3.4] [01 step 1]
 unfoldable pub small-frame : List ℕ → ℕ → ℕ → ℕ → List ℕ
 small-frame m a sr pc = put-long (put-word m a sr) (plus a 2) pc
 
--- the frame is written, then the vector is read  [003 4.3] [01 step 1]
+-- the frame is written, then the vector is read  [003 4.3.5] [01 step 1]
 unfoldable pub exception : List ℕ → List ℕ → ℕ → ℕ → Stepped
 exception s m vec sr =
     let a = minus (ssp-of s) 6 in
@@ -56,23 +57,25 @@ big-room v a =
     let i = room v (plus a 8) Long h in
     eqb (room v (plus a 12) Word i .bad) 0
 
--- from the lowest address: information word, access address; operation word, SR, PC  [01 step 7]
+-- from the lowest address: information word, access address  [003 4.4.9.1] [01 step 7]
 unfoldable pub fault-access : List ℕ → ℕ → ℕ → List ℕ
 fault-access m a bad = put-long (put-word m a (fault-information bad)) (plus a 2) (fault-address bad)
 
+-- above them: operation word, SR, PC  [003 4.4.9.1] [01 step 7]
 unfoldable pub fault-rest : List ℕ → ℕ → ℕ → ℕ → ℕ → List ℕ
 fault-rest m a op sr pc = small-frame (put-word m a op) (plus a 2) sr pc
 
+-- the fourteen bytes written  [003 4.4.9.1] [01 step 7]
 unfoldable pub big-frame : List ℕ → ℕ → ℕ → ℕ → ℕ → ℕ → List ℕ
 big-frame m a bad op sr pc = fault-rest (fault-access m a bad) (plus a 6) op sr pc
 
--- a bus or address error whose frame at a can be written  [01 step 7]
+-- a bus or address error whose frame at a can be written  [003 4.4.9.1] [003 4.4.10] [01 step 7]
 unfoldable pub fault-taken : List ℕ → List ℕ → ℕ → ℕ → ℕ → ℕ → Stepped
 fault-taken s m a bad op pc =
     let n = big-frame m a bad op (sr-of s) pc in
     record { s = enter s (view-of n) a (fault-vector bad) (supervisor-sr (sr-of s)); m = n; event = event-of (fault-vector bad) }
 
--- a bus or address error, from the slots before the instruction: the saved PC is its address plus 2  [01 step 7]
+-- a bus or address error, from the slots before the instruction: the saved PC is its address plus 2  [003 4.4.9.1] [003 4.4.10] [01 step 7]
 unfoldable pub fault : List ℕ → List ℕ → ℕ → ℕ → Stepped
 fault s m bad op =
     let a = minus (ssp-of s) 14 in

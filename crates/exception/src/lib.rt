@@ -1,6 +1,6 @@
 // lib.rt - an exception: its frame of 6 or 14 bytes on SSP, the vector, and the halt where the frame cannot be written whole.
 // Means: specs/Exceptions.antt.  Laws: proofs/ExceptionLaws.antt.
-// Uses: codes, bits, bank, bus, store, touch.  Source: [003 4.3], [003 4.4], [01 step 1], [01 step 7], [01 step 8].
+// Uses: codes, bits, bank, bus, store, touch.  Source: [003 4.3.5], [003 4.4.9], [003 4.4.10], [01 step 1], [01 step 7], [01 step 8].
 ghost use mathlib.Core.Path.{_≡_};
 ghost use Prim.Native.Nat.{ℕ, _+_, _*_, _%_, _/_, _<_, _≤_};
 ghost use lib.ListN.{getD, set, length};

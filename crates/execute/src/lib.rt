@@ -1,6 +1,6 @@
 // lib.rt - the instruction of an operation word: its kind, whether it may be done in this state, and the family's function.
 // Means: specs/Dispatch.antt.  Laws: proofs/DispatchLaws.antt.
-// Uses: codes, bits, bus, plan, decode, movement, movem, integer, bitwise, control, system.  Source: [01 step 2], [01 step 4], [003 4.3].
+// Uses: codes, bits, bus, plan, decode, movement, movem, integer, bitwise, control, system.  Source: [01 step 2], [01 step 4], [003 4.4.7].
 ghost use mathlib.Core.Path.{_≡_};
 ghost use Prim.Native.Nat.{ℕ, _+_, _*_, _%_, _/_, _<_, _≤_};
 ghost use Rattle.bus.specs.Bus.{view-of};

@@ -12,24 +12,27 @@ use Rattle.alu.specs.declared.Outcome.{Outcome}
 abbrev pub top-bit : ℕ → ℕ → Bool
 top-bit v z = leb (half z) (low v z)
 
--- V and C of ADD, ADDI, ADDQ, ADDX  [003 A-1 ADD, ADDX]
+-- V of ADD, ADDI, ADDQ, ADDX  [003 A-1 ADD, ADDX]
 abbrev pub sum-overflow : Bool → Bool → Bool → Bool
 sum-overflow S D R = (S && D && not R) || (not S && not D && R)
 
+-- their C  [003 A-1 ADD, ADDX]
 abbrev pub sum-carry : Bool → Bool → Bool → Bool
 sum-carry S D R = (S && D) || (not R && D) || (S && not R)
 
--- V and C of SUB, SUBI, SUBQ, SUBX, CMP, CMPA, CMPI, CMPM  [003 A-1 SUB, SUBX, CMP]
+-- V of SUB, SUBI, SUBQ, SUBX, CMP, CMPA, CMPI, CMPM  [003 A-1 SUB, SUBX, CMP]
 abbrev pub difference-overflow : Bool → Bool → Bool → Bool
 difference-overflow S D R = (not S && D && not R) || (S && not D && R)
 
+-- their C  [003 A-1 SUB, SUBX, CMP]
 abbrev pub difference-borrow : Bool → Bool → Bool → Bool
 difference-borrow S D R = (S && not D) || (R && not D) || (S && R)
 
--- V and C of NEG, NEGX  [003 A-1 NEG, NEGX]
+-- V of NEG, NEGX  [003 A-1 NEG, NEGX]
 abbrev pub negation-overflow : Bool → Bool → Bool
 negation-overflow D R = D && R
 
+-- their C  [003 A-1 NEG, NEGX]
 abbrev pub negation-borrow : Bool → Bool → Bool
 negation-borrow D R = D || R
 

@@ -1,6 +1,6 @@
 -- Marks.antt - how a condition-code row of 003 is written down, and what it is for a result and its flags to obey it.
 -- 003's * stands for three signs here: the general rule of A-1, "cleared or kept", and a formula of A-1, of which specs/Formulas.antt speaks.
--- Laws: proofs/MarksLaws.antt.  Source: [003 A-1], [003 B], [01 Arithmetic].
+-- Laws: proofs/MarksLaws.antt.  Source: [003 A.3], [003 A-1], [003 B], [01 Arithmetic].
 use Prim.Native.Nat.{ℕ}
 use mathlib.Core.Path.{_≡_}
 use mathlib.Core.Bool.{Bool, true, false, _&&_}
@@ -9,7 +9,7 @@ use Rattle.bits.specs.Bits.{half}
 use Rattle.flags.specs.declared.Flagged.{Flagged}
 use Rattle.flags.specs.Flags.{x-of, n-of, z-of, v-of, c-of}
 
--- * by the general rule, * cleared or kept, * by a formula, - 0 1 U  [003 A-1] [003 B]
+-- * by the general rule, * cleared or kept, * by a formula, - 0 1 U  [003 A.3] [003 A-1]
 pub data Mark : Type 0 where
   as-result : Mark
   cleared-or-kept : Mark
@@ -19,7 +19,7 @@ pub data Mark : Type 0 where
   set-to-1 : Mark
   undefined : Mark
 
--- the signs of X N Z V C  [003 B]
+-- the signs of X N Z V C  [003 A.3]
 pub record Row : Type 0 where
   pub x : Mark
   pub n : Mark
@@ -27,10 +27,11 @@ pub record Row : Type 0 where
   pub v : Mark
   pub c : Mark
 
+-- a row by its five signs  [ours]
 abbrev pub row : Mark → Mark → Mark → Mark → Mark → Row
 row x n z v c = record { x = x; n = n; z = z; v = v; c = c }
 
--- what a sign says of a flag before and after, and of the general rule for that flag; undefined keeps its value  [003 B] [01 Arithmetic]
+-- what a sign says of a flag before and after, and of the general rule for that flag; undefined keeps its value  [003 A.3] [01 Arithmetic]
 abbrev pub Follows : Mark → Bool → Bool → Bool → Type 0
 Follows as-result before after rule = after ≡ rule
 Follows cleared-or-kept before after rule = after ≡ (before && rule)
@@ -40,7 +41,7 @@ Follows cleared before after rule = after ≡ false
 Follows set-to-1 before after rule = after ≡ true
 Follows undefined before after rule = after ≡ before
 
--- a result of size s and its flags follow a row: the general rule is X as C, N as the top bit, Z as "is 0"  [003 A-1]
+-- a result of size s and its flags follow a row: the general rule is X as C, N as the top bit, Z as "is 0"  [003 A.3] [003 A-1]
 pub record Obeys (r : Row) (s old : ℕ) (new : Flagged) : Type 0 where
   pub x : Follows (r .x) (x-of old) (x-of (new .ccr)) (c-of (new .ccr))
   pub n : Follows (r .n) (n-of old) (n-of (new .ccr)) (leb (half s) (new .value))

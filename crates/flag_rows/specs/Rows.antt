@@ -1,7 +1,7 @@
 -- Rows.antt - the condition codes of 003, instruction by instruction, each beside the definition that gives its flags.
--- Not here, since they have no arithmetic: those that set no flag (ADDA SUBA MOVEA, ADDQ and SUBQ to An, Bcc BRA BSR DBcc Scc EXG ILLEGAL JMP JSR LEA
--- LINK MOVEM MOVEP NOP PEA RESET RTS TRAP TRAPV UNLK, MOVE from SR and USP), and those that write CCR or SR whole (ANDI EORI ORI MOVE to CCR and SR, RTE RTR STOP).
--- Theorem: flags-obey-rows of proofs/RowsLaws.antt.  Source: [003 B], [01 Arithmetic], [01 step 5].
+-- Not here: those that set no flag (ADDA SUBA MOVEA, ADDQ and SUBQ to An, Bcc BRA BSR DBcc Scc EXG ILLEGAL JMP JSR LEA LINK MOVEM MOVEP NOP PEA
+-- RESET RTS TRAP TRAPV UNLK, MOVE from SR and USP), and those that write CCR or SR whole (ANDI EORI ORI MOVE to CCR and SR, RTE RTR STOP).
+-- Theorem: flags-obey-rows of proofs/RowsLaws.antt.  Source: [003 A-1], [003 B], [01 Arithmetic], [01 step 5].
 use Prim.Native.Nat.{_%_, _/_, _^_}
 use mathlib.Core.Bool.{Bool, true, false, _&&_, not}
 use mathlib.Core.List.{List, [], _∷_}
@@ -19,49 +19,59 @@ use Rattle.multiply_divide.specs.declared.Divided.{Divided}
 use Rattle.multiply_divide.specs.MultiplyDivide.{signed-long, signed-word, outside-word, multiply-signed, multiply-unsigned, divide-signed, divide-unsigned}
 use Rattle.shift.specs.Shift.{shift}
 
--- the rows that many instructions have: sums, sums with X, comparisons, moves and logic, decimal  [003 A-1]
+-- the row of sums and differences  [003 A-1 ADD, SUB, NEG]
 abbrev pub sum-row : Row
 sum-row = row as-result as-result as-result by-formula by-formula
 
+-- the row of those with X  [003 A-1 ADDX, SUBX, NEGX] [01 Arithmetic]
 abbrev pub extended-row : Row
 extended-row = row as-result as-result cleared-or-kept by-formula by-formula
 
+-- the row of comparisons  [003 A-1 CMP]
 abbrev pub compare-row : Row
 compare-row = row kept as-result as-result by-formula by-formula
 
+-- the row of moves and logic  [003 A-1 MOVE, AND]
 abbrev pub move-row : Row
 move-row = row kept as-result as-result cleared cleared
 
+-- the row of decimal sums and differences  [003 A-1 ABCD, SBCD, NBCD]
 abbrev pub decimal-row : Row
 decimal-row = row as-result undefined cleared-or-kept undefined by-formula
 
--- rows of a shift that alters X as C, of a rotate, which keeps X, and of a zero divisor and an overflow  [003 A-1] [01 step 5]
+-- the row of a shift that alters X as C  [003 A-1 LSL, LSR, ASR]
 abbrev pub shift-row : Row
 shift-row = row as-result as-result as-result cleared by-formula
 
+-- the row of a rotate, which keeps X  [003 A-1 ROL, ROR]
 abbrev pub rotate-row : Row
 rotate-row = row kept as-result as-result cleared by-formula
 
+-- the row of a zero divisor  [01 step 5]
 abbrev pub zero-row : Row
 zero-row = row kept cleared cleared cleared cleared
 
+-- the row of a quotient outside its 16 bits  [003 B DIVS, DIVU] [01 Arithmetic]
 abbrev pub overflow-row : Row
 overflow-row = row kept undefined undefined set-to-1 cleared
 
--- CHK's two tests  [003 B CHK]
+-- CHK's first test: below 0  [003 B CHK] [01 step 5]
 abbrev pub below : Operands → Bool
 below o = leb 32768 (o .a % 65536)
 
+-- CHK's second test: above the bound  [003 B CHK]
 abbrev pub above : Operands → Bool
 above o = ltb (biased (o .b)) (biased (o .a))
 
--- DIVS and DIVU: the divisor is 0; the quotient is outside its 16 bits  [003 B DIVS, DIVU]
+-- DIVS and DIVU: the divisor is 0  [003 B DIVS, DIVU]
 abbrev pub no-divisor : Operands → Bool
 no-divisor o = eqb (o .b % 65536) 0
 
+-- DIVS: the quotient is outside its 16 bits  [003 B DIVS] [01 Arithmetic]
 abbrev pub outside-signed : Operands → Bool
 outside-signed o = outside-word (quotZ (signed-long (o .a)) (signed-word (o .b)))
 
+-- DIVU: likewise  [003 B DIVU] [01 Arithmetic]
 abbrev pub outside-unsigned : Operands → Bool
 outside-unsigned o = ltb 65535 (o .a / (o .b % 65536))
 
@@ -69,13 +79,15 @@ outside-unsigned o = ltb 65535 (o .a / (o .b % 65536))
 abbrev pub by-quotient : Divided → Flagged
 by-quotient d = record { value = d .value % 65536; ccr = d .ccr }
 
--- a shift's side, and whether it moves nothing: the count is 0 modulo 64  [003 B ASL] [01 Arithmetic]
+-- a shift to the left: the operands have kind 1  [ours]
 abbrev pub to-left : Operands → Bool
 to-left o = eqb (o .k) 1
 
+-- a shift that moves nothing: the count is 0 modulo 64  [003 B ASL] [01 Arithmetic]
 abbrev pub count-0 : Operands → Bool
 count-0 o = eqb (o .n % 64) 0
 
+-- every instruction with arithmetic: its row, and the definition that gives its flags  [003 B] [01 Arithmetic] [01 step 5]
 abbrev pub rows : List Entry
 rows =
     -- ADD, ADDI, ADDQ; SUB, SUBI, SUBQ; NEG  [003 B ADD, SUB, NEG]

@@ -1,6 +1,6 @@
 // lib.rt - the five flags X N Z V C as one number, a value with its flags, and the sixteen conditions.
 // Means: specs/Flags.antt.  Laws: proofs/FlagsLaws.antt.
-// Uses: codes, bits.  Source: [003 1.3.2], [003 A-2], [003 B DBcc], [01 What the box emulates].
+// Uses: codes, bits.  Source: [003 1.2], [003 A-2], [003 B DBcc], [003 B MOVE to CCR], [01 What the box emulates].
 ghost use mathlib.Core.Path.{_≡_};
 ghost use Prim.Native.Nat.{ℕ, _+_, _*_, _%_, _/_, _<_, _≤_};
 ghost use lib.Dec.{eqb};

@@ -52,25 +52,29 @@ on-block b m j refusal s₁ m₁ j₁ a =
     (record { b = block-of s₁; m = m₁; j = j₁; a = a })
     (record { b = b; m = m; j = j; a = refusal no-block })
 
--- the answers of a refused call: its number, the mark as given, 0 for the rest  [01 Calls, table]
+-- the answer of a refused step: its number, the mark as given, 0 for the rest  [01 Calls, table]
 abbrev pub step-refusal : ℕ → ℕ → StepAnswer
 step-refusal mark n = record { number = n; event = 0; mark = mark }
 
+-- the answer of a refused run: likewise  [01 Calls, table]
 abbrev pub run-refusal : ℕ → ℕ → RunAnswer
 run-refusal mark n = record { number = n; reason = 0; mark = mark; steps = 0 }
 
+-- the answer of a refused undo: likewise  [01 Calls, table]
 abbrev pub undo-refusal : ℕ → ℕ → UndoAnswer
 undo-refusal mark n = record { number = n; mark = mark }
 
--- the machine's step, run and undo on the slots that the block holds; undo only reads the journal  [K1]
+-- the machine's step on the slots that the block holds  [K1]
 unfoldable pub ibz-step : List ℕ → List ℕ → ℕ → ℕ → List ℕ → ℕ → OnBlock StepAnswer
 ibz-step b m level vector j mark =
     let c = step-call (slots-in b) m level vector j mark in on-block b m j (step-refusal mark) (c .s) (c .m) (c .j) (c .a)
 
+-- the machine's run on them  [K1]
 unfoldable pub ibz-run : List ℕ → List ℕ → ℕ → ℕ → List ℕ → ℕ → OnBlock RunAnswer
 ibz-run b m budget stop j mark =
     let c = run-call (slots-in b) m budget stop j mark in on-block b m j (run-refusal mark) (c .s) (c .m) (c .j) (c .a)
 
+-- the machine's undo on them; it only reads the journal  [K1]
 unfoldable pub ibz-undo : List ℕ → List ℕ → List ℕ → ℕ → OnBlock UndoAnswer
 ibz-undo b m j mark =
     let c = undo-call (slots-in b) m j mark in on-block b m j (undo-refusal mark) (c .s) (c .m) j (c .a)

@@ -19,13 +19,15 @@ pub record Box : Type 0 where
 
 -- ---- what each call gives back on a box
 
--- ibz_step, ibz_run and ibz_undo, given all that the host keeps  [K1]
+-- ibz_step, given all that the host keeps  [K1]
 abbrev pub ibz-stepping : ℕ → ℕ → Box → OnBlock StepAnswer
 ibz-stepping level vector x = ibz-step (x .block) (x .memory) level vector (x .journal) (x .mark)
 
+-- ibz_run, likewise  [K1]
 abbrev pub ibz-running : ℕ → ℕ → Box → OnBlock RunAnswer
 ibz-running budget stop x = ibz-run (x .block) (x .memory) budget stop (x .journal) (x .mark)
 
+-- ibz_undo, likewise  [K1]
 abbrev pub ibz-undoing : Box → OnBlock UndoAnswer
 ibz-undoing x = ibz-undo (x .block) (x .memory) (x .journal) (x .mark)
 
@@ -39,12 +41,13 @@ ibz-act (step-of level vector) x = box-left (λ (a : StepAnswer). a .mark) (ibz-
 ibz-act (run-of budget stop) x = box-left (λ (a : RunAnswer). a .mark) (ibz-running budget stop x)
 ibz-act undo-once x = box-left (λ (a : UndoAnswer). a .mark) (ibz-undoing x)
 
--- the number of a call's answer, and the steps that a run tells  [K1]
+-- the number of a call's answer  [K1]
 abbrev pub ibz-number : Call → Box → ℕ
 ibz-number (step-of level vector) x = ibz-stepping level vector x .a .number
 ibz-number (run-of budget stop) x = ibz-running budget stop x .a .number
 ibz-number undo-once x = ibz-undoing x .a .number
 
+-- the steps that a run tells  [K1]
 abbrev pub ibz-steps : Call → Box → ℕ
 ibz-steps (step-of level vector) x = 0
 ibz-steps (run-of budget stop) x = ibz-running budget stop x .a .steps

@@ -1,6 +1,6 @@
 // lib.rt - integer arithmetic, logic and decimal instructions: operands read, the result put or planned, the flags set.
-// Means: specs/Integer.antt.  Laws: proofs/IntegerLaws.antt.
-// Uses: codes, bits, flags, alu, decimal, signed, bus, operand, plan.  Source: [003 3.3], [003 3.4], [003 3.7], [003 B], [01 Operands], [01 Arithmetic].
+// Means: specs/Integer.antt.  Laws: proofs/IntegerLaws.antt.  Source: [003 3.3], [003 3.4], [003 3.7], [003 B], [01 Operands], [01 Arithmetic].
+// Uses: codes, bits, flags, alu, decimal, multiply_divide, bus, operand, plan.
 ghost use mathlib.Core.Path.{_≡_};
 ghost use Rattle.bus.specs.Bus.{view-of};
 ghost use Rattle.plan.specs.Plans.{Done};

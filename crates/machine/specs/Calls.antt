@@ -32,19 +32,21 @@ state-fits s = valid-status (sr-of s) && leb (mode-of s) Halted
 
 -- ---- reset
 
--- SSP from address 0, PC from 4, SR $2700, every other slot 0  [01 Calls, Reset]
+-- SSP from address 0, PC from 4, SR $2700, every other slot 0  [003 4.4.1] [01 Calls, Reset]
 abbrev pub reset-slots : List ℕ → List ℕ
 reset-slots m =
     0 ∷ 0 ∷ 0 ∷ 0 ∷ 0 ∷ 0 ∷ 0 ∷ 0 ∷ 0 ∷ 0 ∷ 0 ∷ 0 ∷ 0 ∷ 0 ∷ 0 ∷ 0
     ∷ long (read-long (view-of m) 0 DataRead (fresh 0 0) .value) ∷ long (read-long (view-of m) 4 DataRead (fresh 0 0) .value) ∷ ResetStatus ∷ Running ∷ []
 
--- halted, and 0 in every other slot  [01 Calls]
+-- a refused reset: halted, and 0 in every other slot  [01 Calls, table]
 abbrev pub refused-slots : List ℕ
 refused-slots = 0 ∷ 0 ∷ 0 ∷ 0 ∷ 0 ∷ 0 ∷ 0 ∷ 0 ∷ 0 ∷ 0 ∷ 0 ∷ 0 ∷ 0 ∷ 0 ∷ 0 ∷ 0 ∷ 0 ∷ 0 ∷ 0 ∷ Halted ∷ []
 
+-- 1, or 0  [01 Calls, table]
 abbrev pub reset-number : List ℕ → ℕ
 reset-number m = pick (memory-fits m) 0 1
 
+-- the slots that a reset gives, refused or not  [01 Calls, Reset] [01 Calls, table]
 unfoldable pub reset-call : List ℕ → List ℕ
 reset-call m = pick (memory-fits m) (reset-slots m) refused-slots
 
@@ -74,6 +76,7 @@ step-taken s m level vector j mark =
     let b = step-record s (t .s) m (t .m) in
     record { s = t .s; m = t .m; j = written j mark b; a = record { number = 0; event = t .event; mark = mark + length b } }
 
+-- a step, or its refusal, which alters nothing  [01 Calls] [01 Calls, table]
 unfoldable pub step-call : List ℕ → List ℕ → ℕ → ℕ → List ℕ → ℕ → StepCall
 step-call s m level vector j mark =
     let n = step-number s m level j mark in
@@ -81,6 +84,7 @@ step-call s m level vector j mark =
 
 -- ---- run
 
+-- slots, memory and journal after a run, and its answer  [ours]
 pub record RunCall : Type 0 where
   pub s : List ℕ
   pub m : List ℕ
@@ -110,6 +114,7 @@ running (suc k) n stop s m j mark =
     (pick (ltb (length j - mark) longest-record) (ended 4 n s m j mark)
     (pick (eqb (pc-of s) stop) (ended 5 n s m j mark) rest)))
 
+-- a run, or its refusal, which alters nothing  [01 Calls, Run] [01 Calls, table]
 unfoldable pub run-call : List ℕ → List ℕ → ℕ → ℕ → List ℕ → ℕ → RunCall
 run-call s m budget stop j mark =
     let n = run-number s m budget j mark in
@@ -117,6 +122,7 @@ run-call s m budget stop j mark =
 
 -- ---- undo
 
+-- slots and memory after an undo, and its answer: it only reads the journal  [ours]
 pub record UndoCall : Type 0 where
   pub s : List ℕ
   pub m : List ℕ
@@ -135,6 +141,7 @@ abbrev pub undo-answer : ℕ → Answer → UndoAnswer
 undo-answer mark (Done start) = record { number = 0; mark = start }
 undo-answer mark Refused = record { number = 8; mark = mark }
 
+-- an undo, or its refusal, which alters nothing  [01 Calls, table] [01 The journal]
 unfoldable pub undo-call : List ℕ → List ℕ → List ℕ → ℕ → UndoCall
 undo-call s m j mark =
     let n = undo-number s m j mark in

@@ -30,13 +30,15 @@ pub data Call : Type 0 where
 
 -- ---- what each call gives back on a machine
 
--- a step, a run and an undo of a machine  [01 Calls]
+-- a step of a machine  [01 Calls]
 abbrev pub stepping : ℕ → ℕ → Machine → StepCall
 stepping level vector x = step-call (x .slots) (x .memory) level vector (x .journal) (x .mark)
 
+-- a run of a machine  [01 Calls, Run]
 abbrev pub running-on : ℕ → ℕ → Machine → RunCall
 running-on budget stop x = run-call (x .slots) (x .memory) budget stop (x .journal) (x .mark)
 
+-- an undo of a machine  [01 Calls]
 abbrev pub undoing : Machine → UndoCall
 undoing x = undo-call (x .slots) (x .memory) (x .journal) (x .mark)
 
@@ -52,12 +54,13 @@ act undo-once x =
     let c = undoing x in
     record { slots = c .s; memory = c .m; journal = x .journal; mark = c .a .mark }
 
--- the number of a call's answer, and the steps that a run tells  [01 Calls]
+-- the number of a call's answer  [01 Calls]
 abbrev pub number-told : Call → Machine → ℕ
 number-told (step-of level vector) x = stepping level vector x .a .number
 number-told (run-of budget stop) x = running-on budget stop x .a .number
 number-told undo-once x = undoing x .a .number
 
+-- the steps that a run tells  [01 Calls, Run]
 abbrev pub steps-told : Call → Machine → ℕ
 steps-told (step-of level vector) x = 0
 steps-told (run-of budget stop) x = running-on budget stop x .a .steps
@@ -136,7 +139,7 @@ record-after r a =
     let t = one-step (a .slots) (a .memory) (r .level) (r .vector) in
     step-record (a .slots) (t .s) (a .memory) (t .m)
 
--- one step by the definition of demand 2; the mark grows by its record  [00 demand 3]
+-- one step by the definition of demand 2; the mark grows by its record  [00 demand 2] [00 demand 3]
 unfoldable pub one-more : Request → Seen → Seen
 one-more r a =
     let t = one-step (a .slots) (a .memory) (r .level) (r .vector) in

@@ -38,13 +38,15 @@ pub data BadState (s : List ℕ) : Type 0 where
   stray-bit : valid-status (sr-of s) ≡ false → BadState s
   no-mode : Halted < mode-of s → BadState s
 
--- the lines that several calls have  [01 Calls, table]
+-- a memory that does not fit: refusal 1  [01 Calls, table]
 abbrev pub memory-line : List ℕ → Line
 memory-line m = record { number = 1; applies = BadMemory m }
 
+-- a state that does not fit: refusal 2  [01 Calls, table]
 abbrev pub state-line : List ℕ → Line
 state-line s = record { number = 2; applies = BadState s }
 
+-- a mark past the journal's end: refusal 4  [01 Calls, table]
 abbrev pub mark-line : List ℕ → ℕ → Line
 mark-line j mark = record { number = 4; applies = length j < mark }
 

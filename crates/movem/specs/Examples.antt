@@ -10,10 +10,11 @@ use Rattle.bus.specs.Bus.{View, view-of}
 use Rattle.plan.specs.Plans.{Done, writing}
 use Rattle.movem.specs.Movem.{movem-down, movem-to-registers, block-room, block-put}
 
--- A0 alone, and an instruction that stands at 0  [ours]
+-- A0 alone  [ours]
 abbrev bank : ℕ → List ℕ
 bank a = 0 ∷ 0 ∷ 0 ∷ 0 ∷ 0 ∷ 0 ∷ 0 ∷ 0 ∷ a ∷ 0 ∷ 0 ∷ 0 ∷ 0 ∷ 0 ∷ 0 ∷ 0 ∷ 0 ∷ []
 
+-- an instruction that stands at 0  [ours]
 abbrev fresh : Flow
 fresh = record { pc = 0; sr = 0x2000; bad = 0 }
 

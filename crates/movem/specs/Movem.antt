@@ -23,10 +23,11 @@ use Rattle.movem.specs.declared.Spot.{Spot}
 abbrev pub listed : Spot → Bool
 listed d = eqb (d .list % 2) 1
 
--- where a walk begins, and where it stands after one bit of its list  [ours]
+-- where a walk begins  [ours]
 abbrev pub first-spot : Way → Flow → Spot
 first-spot w f = record { list = w .list; index = 0; at = w .start; flow = f }
 
+-- where it stands after one bit of its list  [ours]
 unfoldable pub next-spot : Way → Spot → Flow → Spot
 next-spot w d f = record { list = d .list / 2; index = plus (d .index) 1; at = pick (listed d) (plus (d .at) (w .step)) (d .at); flow = f }
 
@@ -47,7 +48,8 @@ load-one v k w t =
 abbrev pub load-list : List ℕ → View → ℕ → Way → Flow → Walk
 load-list r v k w f = iter (load-one v k w) 16 (record { held = r; spot = first-spot w f })
 
--- MOVEM to registers: the list's word, then the mode's words; (An)+ leaves An at the final address even if An was listed  [003 B MOVEM] [01 Operands]
+-- MOVEM to registers: the list's word, then the mode's words; (An)+ leaves An at the final address even if An was listed
+-- [003 B MOVEM] [01 Operands]
 unfoldable pub movem-to-registers : List ℕ → View → ℕ → Flow → Done
 movem-to-registers r v op f =
     let z = long-or-word op in
@@ -92,10 +94,11 @@ room-list v w f = iter (room-one v w) 16 (first-spot w f)
 unfoldable pub block-room : View → Plan → Flow
 block-room v p = room-list v (room-way p) (p .flow) .flow
 
--- the low sixteen bits in the other order: the list of -(An) begins with A7  [003 B MOVEM]
+-- eight bits in the other order  [003 B MOVEM]
 abbrev pub mirrored-byte : ℕ → ℕ
 mirrored-byte x = x % 2 * 128 + x / 2 % 2 * 64 + x / 4 % 2 * 32 + x / 8 % 2 * 16 + x / 16 % 2 * 8 + x / 32 % 2 * 4 + x / 64 % 2 * 2 + x / 128 % 2
 
+-- the low sixteen bits in the other order: the list of -(An) begins with A7  [003 B MOVEM]
 unfoldable pub mirrored : ℕ → ℕ
 mirrored x = mirrored-byte x * 256 + mirrored-byte (x / 256)
 

@@ -8,10 +8,11 @@ use Rattle.bus.specs.Bus.{view-of}
 use Rattle.plan.specs.Plans.{Done}
 use Rattle.movement.specs.Movement.{move-data, link, unlink}
 
--- A0 and A7 alone, and an instruction whose extension words stand at 0  [ours]
+-- A0 and A7 alone  [ours]
 abbrev bank : ℕ → ℕ → List ℕ
 bank a s = 0 ∷ 0 ∷ 0 ∷ 0 ∷ 0 ∷ 0 ∷ 0 ∷ 0 ∷ a ∷ 0 ∷ 0 ∷ 0 ∷ 0 ∷ 0 ∷ 0 ∷ s ∷ 0 ∷ []
 
+-- an instruction whose extension words stand at 0  [ours]
 abbrev fresh : Flow
 fresh = record { pc = 0; sr = 0; bad = 0 }
 
@@ -19,6 +20,7 @@ fresh = record { pc = 0; sr = 0; bad = 0 }
 abbrev write-of : Done → List ℕ
 write-of d = d .p .at ∷ d .p .value ∷ []
 
+-- LINK A7,#-8 with A7 $100  [ours]
 abbrev linked : Done
 linked = link (bank 0 0x100) (view-of (0xFF ∷ 0xF8 ∷ [])) 0x4E57 fresh
 

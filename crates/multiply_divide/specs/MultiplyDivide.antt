@@ -13,15 +13,15 @@ use Rattle.flags.specs.Flags.{flags, x-of, n-of, z-of}
 use Rattle.flags.specs.declared.Flagged.{Flagged}
 use Rattle.multiply_divide.specs.declared.Divided.{Divided}
 
--- a long read as a signed number  [003 1.4]
+-- a long read as a signed number: DIVS's dividend  [003 2.2] [003 B DIVS]
 unfoldable pub signed-long : ℕ → ℤ
 signed-long x = toZ w32 x
 
--- the low word read as a signed number  [003 1.4]
+-- the low word read as a signed number: a factor, a divisor  [003 2.2] [003 B MULS DIVS]
 unfoldable pub signed-word : ℕ → ℤ
 signed-word x = toZ w16 (x % 65536)
 
--- the low 32 bits of a signed number  [003 1.4]
+-- the low 32 bits of a signed number: a long  [003 2.2]
 unfoldable pub low-long : ℤ → ℕ
 low-long z = ofZ w64 z % 2 ^ 32
 
@@ -45,7 +45,8 @@ multiply-unsigned a b old = product-result (a % 65536 * (b % 65536)) old
 unfoldable pub zero-divide : ℕ → ℕ → Divided
 zero-divide a old = record { value = a; ccr = flags (x-of old) false false false false; zero = true }
 
--- a quotient outside its 16 bits: the register stays, V set, C cleared, N and Z kept; else remainder and quotient, N and Z by the quotient  [003 B DIVS DIVU] [01 Arithmetic]
+-- a quotient outside its 16 bits: the register stays, V set, C cleared, N and Z kept; else remainder and quotient, N and Z by the quotient
+-- [003 B DIVS DIVU] [01 Arithmetic]
 unfoldable pub quotient-result : Bool → ℕ → ℕ → ℕ → ℕ → Divided
 quotient-result over q r a old =
     let w = q % 65536 in

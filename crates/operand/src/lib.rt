@@ -1,6 +1,6 @@
 // lib.rt - the register bank and the twelve addressing modes at three sizes, with their register steps and extension words.
 // Means: specs/Operands.antt.  Laws: proofs/OperandLaws.antt.
-// Uses: codes, bits, bus.  Source: [003 2], [01 Operands], [01 step 7].
+// Uses: codes, bits, bus.  Source: [003 2.3], [003 2.7], [003 2.11], [01 Operands], [01 step 7].
 ghost use mathlib.Core.Path.{_≡_};
 ghost use Prim.Native.Nat.{ℕ, _+_, _*_, _%_, _/_, _<_, _≤_};
 ghost use lib.ListN.{getD, set};

@@ -1,6 +1,6 @@
 // lib.rt - what an instruction leaves to do: one write, a trap or a stop, and where it stands. The instruction families share this.
 // Means: specs/Plans.antt.  Laws: proofs/PlanLaws.antt.
-// Uses: codes, bits, flags, bus, operand.  Source: [01 step 3], [01 step 6], [01 step 9], [ours].
+// Uses: codes, bits, flags, bus, operand.  Source: [003 4.4.5], [01 step 3], [01 step 6], [01 step 9], [ours].
 ghost use mathlib.Core.Path.{_≡_};
 ghost use Prim.Native.Nat.{ℕ, _+_, _*_, _%_, _/_, _<_, _≤_};
 ghost use Rattle.plan.specs.Plans.{Done, flagged, jump, nothing, trapping, refusing, stopping, writing, finish, push, quick};

@@ -1,6 +1,6 @@
 -- Steps.antt - one whole step: slots and memory before and a request give slots, memory and the event. It follows [01 One step].
 -- Not modelled: prefetch, bus cycles, clocks, the edge of level 7.
--- Laws: proofs/StepLaws.antt.  Source: [01 One step], [003 4].
+-- Laws: proofs/StepLaws.antt.  Source: [003 4.1], [003 4.4.2], [003 4.4.8], [01 One step].
 use Prim.Native.Nat.{ℕ, _+_, _*_, _%_, _/_}
 use mathlib.Core.Bool.{Bool, true, false, _&&_, _||_, not}
 use mathlib.Core.List.{List}
@@ -27,11 +27,12 @@ checked v p =
     pick (eqb (p .write) NoWrite) p
     (pick (ltb (p .write) NoWrite) (plan-with-flow p (room v (p .at) (p .write) (p .flow))) (plan-with-flow p (block-room v p)))
 
--- an operation word and its instruction, up to its writes: it sees the registers, PC, SR and the view of memory  [01 step 6]
+-- an operation word and its instruction, up to its writes: the registers, and what it tried  [ours]
 pub record Attempt : Type 0 where
   pub r : List ℕ
   pub t : Tried
 
+-- the operation word is read, then all that its instruction does but its write  [01 step 6]
 unfoldable pub attempt : List ℕ → View → Flow → Attempt
 attempt r v f =
     let w = next-word v f in
@@ -50,11 +51,11 @@ trap-of p = pick (ltb (p .vector) StopCode) (p .vector) NoVector
 unfoldable pub take-trap : List ℕ → List ℕ → ℕ → Stepped
 take-trap s m vec = pick (ltb NoVector vec) (exception s m vec (supervisor-sr (sr-of s))) (record { s = s; m = m; event = NoEvent })
 
--- trace follows if T was 1 at the start, unless the instruction was refused or the machine halted  [01 step 5]
+-- trace follows if T was 1 at the start, unless the instruction was refused or the machine halted  [003 4.4.8] [01 step 5]
 unfoldable pub traced : ℕ → Bool → ℕ → ℕ
 traced vec trace event = bit (trace && not (eqb vec IllegalInstruction || eqb vec PrivilegeViolation || eqb vec Line1010 || eqb vec Line1111) && not (eqb event HaltEvent)) * TraceVector
 
--- the trap, then the trace, whose "next" is the trap's handler; the first event counts  [01 step 3] [01 step 5]
+-- the trap, then the trace, whose "next" is the trap's handler; the first event counts  [003 4.4.8] [01 step 3] [01 step 5]
 unfoldable pub both : List ℕ → List ℕ → ℕ → Bool → Stepped
 both s m vec trace =
     let a = take-trap s m vec in
@@ -65,7 +66,7 @@ both s m vec trace =
 unfoldable pub carry-out : List ℕ → List ℕ → List ℕ → Plan → Bool → Stepped
 carry-out s m r p trace = pick (eqb (p .write) NoWrite) (both s m (trap-of p) trace) (take-trap s (commit m r p) (pick trace TraceVector NoVector))
 
--- the end of an instruction; one that faults keeps nothing of its work  [01 step 7]
+-- the end of an instruction; one that faults keeps nothing of its work  [003 4.4.9] [003 4.4.10] [01 step 7]
 unfoldable pub conclude : List ℕ → List ℕ → List ℕ → Tried → Stepped
 conclude s m r t =
     let p = t .p in
@@ -75,15 +76,16 @@ conclude s m r t =
 unfoldable pub instruction : List ℕ → List ℕ → Stepped
 instruction s m = let a = attempt (bank s) (view-of m) (fresh (pc-of s) (sr-of s)) in conclude s m (a .r) (a .t)
 
--- S set, T clear, and the mask is the level, once SR is copied  [01 One step]
+-- S set, T clear, and the mask is the level, once SR is copied  [003 4.4.2] [01 One step]
 abbrev pub interrupt-sr : ℕ → ℕ → ℕ
 interrupt-sr sr level = Supervisor + level % 8 * Mask + sr % Mask
 
--- an interrupt: the saved PC is the current one  [01 One step]
+-- an interrupt: the saved PC is the current one  [003 4.4.2] [01 One step]
 unfoldable pub interrupt : List ℕ → List ℕ → ℕ → ℕ → Stepped
 interrupt s m level vector = exception s m vector (interrupt-sr (sr-of s) level)
 
--- level 7, or above the mask: the interrupt; else a machine that does not run changes nothing; else one instruction  [01 One step]
+-- level 7, or above the mask: the interrupt; else a machine that does not run changes nothing; else one instruction
+-- [003 4.4.2] [003 4.1] [01 One step]
 unfoldable pub one-step : List ℕ → List ℕ → ℕ → ℕ → Stepped
 one-step s m level vector =
     pick (eqb level TopLevel || ltb (sr-of s / Mask % 8) level) (interrupt s m level vector)

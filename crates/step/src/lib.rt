@@ -1,6 +1,6 @@
 // lib.rt - one whole step: the attempt of an instruction, its writes, its trap, trace, interrupts, a stopped machine.
 // Means: specs/Steps.antt.  Laws: proofs/StepLaws.antt, proofs/NotedLaws.antt.
-// Uses: codes, bits, bus, plan, movem, store, touch, bank, exception, execute.  Source: [01 One step].
+// Uses: codes, bits, bus, plan, movem, store, touch, bank, exception, execute.  Source: [003 4.1], [003 4.4.2], [003 4.4.8], [01 One step].
 ghost use mathlib.Core.Path.{_≡_};
 ghost use Prim.Native.Nat.{ℕ, _+_, _≤_};
 ghost use lib.ListN.{length};
