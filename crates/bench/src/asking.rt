@@ -1,6 +1,6 @@
 // asking.rt - what the arguments ask: the words, their numbers, and what is to be run next.
 // Means: nothing; proved safe.
-// Uses: running, stack, io, libc.  Source: [ours]; the lengths are those of [01 Calls and what they give back].
+// Uses: running, stack_limit, io, libc.  Source: [ours]; the lengths are those of [01 Calls and what they give back].
 use crate::running::ALONE;
 use crate::running::HASHED;
 use crate::running::UNDONE;
