@@ -1,5 +1,6 @@
 pub mod ValidLaws
 pub mod RefusalLaws
+pub mod FormedLaws
 pub mod StatusLaws
 pub mod PromiseLaws
 pub mod SlotsLaws

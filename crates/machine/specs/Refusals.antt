@@ -1,6 +1,6 @@
 -- Refusals.antt - the tables of [01 Calls]: for each call the numbers that it can give, in order, and when each applies; a run's reasons.
 -- Not here: what a call gives back (Calls.antt).
--- Laws: proofs/RefusalLaws.antt, proofs/RunLaws.antt.  Source: [01 Calls and what they give back].
+-- Laws: proofs/RefusalLaws.antt, proofs/FormedLaws.antt, proofs/RunLaws.antt.  Source: [01 Calls and what they give back].
 use Prim.Native.Nat.{ℕ, _-_, _%_, _<_}
 use mathlib.Core.Path.{_≡_}
 use mathlib.Core.Bool.{false}
@@ -70,7 +70,7 @@ abbrev pub run-table : List ℕ → List ℕ → ℕ → List ℕ → ℕ → Li
 run-table s m budget j mark =
     memory-line m ∷ state-line s ∷ record { number = 3; applies = MostSteps < budget } ∷ mark-line j mark ∷ []
 
--- undo gives 1, 2, 4, 7 and 8  [01 Calls, table]
+-- undo gives 1, 2, 4, 7 and 8; what well formed means, clause by clause, is Formed of undo (undo-gives-8)  [01 Calls, table]
 abbrev pub undo-table : List ℕ → List ℕ → List ℕ → ℕ → List Line
 undo-table s m j mark =
     memory-line m

@@ -1,5 +1,5 @@
 // lib.rt - undo: the last record of a journal is read from its end, judged, and put back.
-// Means: specs/Undo.antt.  Laws: proofs/ReadLaws, JudgeLaws, ShapeLaws, UndoLaws, ManyLaws.
+// Means: specs/Undo.antt.  Laws: proofs/ReadLaws, JudgeLaws, ShapeLaws, FormedLaws, UndoLaws, ManyLaws.
 // Uses: record, numbers, bits.  Source: [01 The journal].
 use numbers::Reading;
 use numbers::read_number;
