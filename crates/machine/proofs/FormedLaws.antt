@@ -32,31 +32,25 @@ undo-table-before-8 s m j mark = memory-line m ∷ state-line s ∷ mark-line j 
 abbrev pub SomeFormed : List ℕ → List ℕ → List ℕ → ℕ → Type 0
 SomeFormed s m j mark = (start : ℕ) × (ss : List Change) × (bs : List Change) × Formed s m j mark start ss bs
 
--- ---- the tests, from the lines that do not apply
-fits-when : (m : List ℕ) → (BadMemory m → ⊥) → memory-fits m ≡ true
-fits-when m h = go (memory-fits m) refl
-  where
-    go : (b : Bool) → memory-fits m ≡ b → b ≡ true
-    go true e = refl
-    go false e = absurd (h (bad-memory-when m e))
-
-state-when : (s : List ℕ) → (BadState s → ⊥) → state-fits s ≡ true
-state-when s h = go (state-fits s) refl
-  where
-    go : (b : Bool) → state-fits s ≡ b → b ≡ true
-    go true e = refl
-    go false e = absurd (h (bad-state-when s e))
+-- a test holds where what it finds does not apply
+holds-when : (P : Type 0) (t : Bool) → (t ≡ false → P) → (P → ⊥) → t ≡ true
+holds-when P true f h = refl
+holds-when P false f h = absurd (h (f refl))
 
 module _ (s m j : List ℕ) (mark : ℕ) where
   module _ (others : NoneApplies (undo-table-before-8 s m j mark)) where
+    fits : memory-fits m ≡ true
+    fits = holds-when (BadMemory m) (memory-fits m) (bad-memory-when m) (others .0)
+
     memory-size : length m ≤ 2 ^ 32
-    memory-size = omega (arith, fits-inv m (fits-when m (others .0)) .2)
+    memory-size = omega (arith, fits-inv m fits .2)
 
     tests-pass : undo-number s m j mark ≡ 0
     tests-pass =
         let o₂ = others .1 in
         let o₄ = o₂ .1 in
-        undo-number-when s m j mark (fits-when m (others .0)) (state-when s (o₂ .0)) (omega (arith, o₄ .0)) (o₄ .1 .0)
+        let state = holds-when (BadState s) (state-fits s) (bad-state-when s) (o₂ .0) in
+        undo-number-when s m j mark fits state (omega (arith, o₄ .0)) (o₄ .1 .0)
 
     -- ---- a record that is Formed is undone
     pub undo-done-when-formed : (start : ℕ) (ss bs : List Change) → Formed s m j mark start ss bs
