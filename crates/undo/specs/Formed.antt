@@ -25,23 +25,23 @@ InOrder (c ∷ d ∷ cs) = (c .place < d .place) × InOrder (d ∷ cs)
 pub record Formed (slots memory journal : List ℕ) (mark start : ℕ) (ss bs : List Change) : Type 0 where
   -- The mark is a place of the journal or its end.
   pub in-journal : mark ≤ length journal
-  -- Wholly at or after place 0: below the mark stand the bytes below start and then all of the record's. Numbers shortest: record-of
-  -- writes each by number-bytes, which takes no more groups than hold it (number-bytes-size, first-not-zero of numbers).
+  -- All of it stands in the journal, none of it before place 0: below the mark are the bytes below start and then the whole record.
+  -- Its numbers are the shortest: record-of writes each by number-bytes (number-bytes-size and first-not-zero of numbers say so of it).
   pub whole : take mark journal ≡ take start journal ++ record-of ss bs
-  -- Counts at most 20 and 70.
+  -- It has no more than 20 slots and 70 bytes.
   pub slot-count : length ss ≤ slot-limit
   pub byte-count : length bs ≤ byte-limit
-  -- Order strictly ascending.
+  -- Slots and addresses rise, so none is there twice.
   pub slot-order : InOrder ss
   pub byte-order : InOrder bs
-  -- Slots below 20.
+  -- There are such slots.
   pub slot-numbers : Every (λ c. c .place < slot-limit) ss
-  -- Values that a valid state can hold: as ValidSlots of record says it of the slots.
+  -- Each old slot value is one of a valid state, as ValidSlots of record says it.
   pub slot-values : Every (λ c. (valid-value (c .place) (c .old) ≡ true) × (c .old < 2 ^ 32)) ss
-  -- Addresses below the length.
+  -- There are such places of memory.
   pub addresses : Every (λ c. c .place < length memory) bs
-  -- Bytes below 256.
+  -- Each old byte is a byte.
   pub byte-values : Every (λ c. c .old < 256) bs
-  -- Each old value different from the one now held.
+  -- No slot and no place of memory holds its old value already.
   pub slots-differ : Every (λ c. c .old ≡ getD slots (c .place) 0 → ⊥) ss
   pub bytes-differ : Every (λ c. c .old ≡ getD memory (c .place) 0 → ⊥) bs
