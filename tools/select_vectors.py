@@ -1,7 +1,7 @@
 #!/usr/bin/env python3
-"""Chooses the single-step cases that the gate runs (crates/vectors/stdin).
+"""Chooses the single-step cases that the gate runs; tools/wrong_cases.py writes them to crates/vectors/stdin.
 
-Usage: tools/select_vectors.py FOLDER > crates/vectors/stdin
+Usage: tools/select_vectors.py FOLDER | tools/wrong_cases.py crates/vectors
 
 FOLDER holds the vector files, *.vec.gz, a case to a line (crates/vectors/README.md). Chosen are, of the cases whose
 memory is 65,536 bytes or less: all of choice, halt, interrupt and scope; of every other file three cases of each name,

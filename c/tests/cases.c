@@ -1,15 +1,28 @@
-/* cases.c - outside single-step cases through the C calls: one step and its undo each, compared whole.
- * A case is a line of ten fields (crates/vectors/README.md), read from standard input. Arguments: a number of cases; where more or fewer
- * agree, the test fails. The mark is 1,000, so that what stands before it is seen to stay; memory ends where pages that can not be
- * touched begin. */
+/* cases.c - single-step cases through the C calls: one step and its undo each, compared whole.
+ * A case is a line of ten fields or fourteen (crates/vectors/README.md), read from standard input. A line whose name begins with `wrong:`
+ * must not hold, every other must; and where two numbers are given as arguments, so many must hold and so many must not. Each line that
+ * does not hold is told with what differed first, the first hundred of them. The mark is 1,000, so that what stands before it is seen to
+ * stay; memory ends where pages that can not be touched begin. */
 #include "tests.h"
 
-enum { FIELDS = 10, MARK = 1000, JOURNAL = 4096, LARGEST = 16777216, SMALL = 65536 };
+enum { FIELDS = 10, FIELDS_WITH_UNDO = 14, MARK = 1000, JOURNAL = 4096, LEAST = 1024, LARGEST = 16777216, LONGEST = 8192, TOLD = 100 };
 
 static uint8_t block[IBZ_BLOCK_LENGTH], goal[IBZ_BLOCK_LENGTH], start[IBZ_BLOCK_LENGTH], journal[JOURNAL], record[JOURNAL];
 static uint8_t *memory, *wanted; /* all 0 between cases */
 
-static int digit(char c) { return c >= '0' && c <= '9' ? c - '0' : c >= 'a' && c <= 'f' ? c - 'a' + 10 : -1; }
+static int digit(char c) {
+  return c >= '0' && c <= '9' ? c - '0' : c >= 'a' && c <= 'f' ? c - 'a' + 10 : c >= 'A' && c <= 'F' ? c - 'A' + 10 : -1;
+}
+
+/* Reads a number of one to eight digits, and leaves p behind it. */
+static int number(const char **p, int base, uint32_t *n) {
+  unsigned digits = 0;
+  for (*n = 0; digit(**p) >= 0 && digit(**p) < base; (*p)++, digits++) *n = *n * (uint32_t)base + (uint32_t)digit(**p);
+  return digits >= 1 && digits <= 8;
+}
+
+/* Whether a field is a number. */
+static int whole(const char *p, uint32_t *n) { return number(&p, 16, n) && *p == 0; }
 
 /* Puts the bytes that are spelled, and tells how many; `clear` puts 0 for each. */
 static size_t put_bytes(const char *p, uint8_t *to, size_t most, int clear) {
@@ -19,71 +32,97 @@ static size_t put_bytes(const char *p, uint8_t *to, size_t most, int clear) {
 }
 
 /* Runs PLACE:BYTES with commas between them, or "-". */
-static int put_runs(char *p, uint8_t *to, size_t length, int clear) {
+static int put_runs(const char *p, uint8_t *to, size_t length, int clear) {
   if (strcmp(p, "-") == 0) return 1;
   for (;;) {
-    const size_t place = strtoul(p, &p, 16);
-    if (*p != ':' || place >= length) return 0;
-    p += 1 + 2 * put_bytes(p + 1, to + place, length - place, clear);
+    uint32_t place;
+    if (!number(&p, 16, &place) || *p != ':' || place >= length) return 0;
+    const size_t n = put_bytes(p + 1, to + place, length - place, clear);
+    p += 1 + 2 * n;
+    if (n == 0) return 0;
     if (*p == 0) return 1;
     if (*p++ != ',') return 0;
   }
 }
 
-static int put_slots(char *p, uint8_t *b) {
+static int put_slots(const char *p, uint8_t *b) {
   for (unsigned s = 0; s < IBZ_SLOTS; s++) {
-    ibz_set(b, s, (uint32_t)strtoul(p, &p, 16));
-    if (*p != (s == IBZ_SLOTS - 1 ? 0 : ',')) return 0;
+    uint32_t value;
+    if (!number(&p, 16, &value) || *p != (s == IBZ_SLOTS - 1 ? 0 : ',')) return 0;
+    ibz_set(b, s, value);
     p++;
   }
   return 1;
 }
 
 /* SLOT=VALUE with commas between them, or "-". */
-static int change_slots(char *p, uint8_t *b) {
+static int change_slots(const char *p, uint8_t *b) {
   if (strcmp(p, "-") == 0) return 1;
   for (;;) {
-    const unsigned s = (unsigned)strtoul(p, &p, 10);
-    if (*p != '=' || s >= IBZ_SLOTS) return 0;
-    ibz_set(b, s, (uint32_t)strtoul(p + 1, &p, 16));
+    uint32_t s, value;
+    if (!number(&p, 10, &s) || *p != '=' || s >= IBZ_SLOTS) return 0;
+    p++;
+    if (!number(&p, 16, &value)) return 0;
+    ibz_set(b, s, value);
     if (*p == 0) return 1;
     if (*p++ != ',') return 0;
   }
 }
 
-static const char *compared(char **f, uint8_t *m, uint8_t *w, size_t length) {
-  if (!put_slots(f[5], block) || !put_runs(f[6], m, length, 0)) return "is no case";
-  memcpy(goal, block, sizeof goal), memcpy(start, block, sizeof start);
-  put_runs(f[6], w, length, 0);
-  memset(journal, 0xA5, JOURNAL), memset(record, 0xA5, JOURNAL);
-  const size_t next = MARK + put_bytes(f[9], record + MARK, IBZ_RECORD_MOST, 0);
-  if (!change_slots(f[7], goal) || !put_runs(f[8], w, length, 0)) return "is no case";
-  const struct ibz_step_answer a = ibz_step(block, sizeof block, m, length, (uint32_t)strtoul(f[3], NULL, 16),
-                                            (uint8_t)strtoul(f[4], NULL, 16), journal, JOURNAL, MARK);
+/* The step, against what fields 8 to 10 say. */
+static const char *step_differs(char **f, uint8_t *m, const uint8_t *w, size_t length, size_t next) {
+  uint32_t level, vector;
+  if (!whole(f[3], &level) || !whole(f[4], &vector) || vector > 255) return "no case";
+  const struct ibz_step_answer a = ibz_step(block, sizeof block, m, length, level, (uint8_t)vector, journal, JOURNAL, MARK);
   if (a.number != 0) return "the step is refused";
-  if (memcmp(block, goal, sizeof goal) != 0) return "slots differ after the step";
-  if (memcmp(m, w, length) != 0) return "memory differs after the step";
-  if (a.mark != next || memcmp(journal, record, JOURNAL) != 0) return "mark or journal differ after the step";
-  put_runs(f[8], w, length, 1), put_runs(f[6], w, length, 0);
-  const struct ibz_undo_answer u = ibz_undo(block, sizeof block, m, length, journal, JOURNAL, a.mark);
-  if (u.number != 0 || u.mark != MARK) return "the undo is refused, or its mark differs";
-  if (memcmp(block, start, sizeof start) != 0 || memcmp(m, w, length) != 0) return "slots or memory differ after the undo";
+  if (memcmp(block, goal, sizeof goal) != 0) return "slots after the step";
+  if (memcmp(m, w, length) != 0) return "memory after the step";
+  if (a.mark != next) return "mark after the step";
+  if (memcmp(journal, record, JOURNAL) != 0) return "journal after the step";
   return NULL;
 }
 
+/* The undo, against what was before the step, or what fields 11 to 14 say. */
+static const char *undo_differs(char **f, unsigned fields, uint8_t *m, uint8_t *w, size_t length, size_t next) {
+  uint32_t refusal = 0, mark = MARK;
+  put_runs(f[8], w, length, 1), put_runs(f[6], w, length, 0);
+  if (fields == FIELDS_WITH_UNDO &&
+      (!whole(f[10], &refusal) || !change_slots(f[11], start) || !put_runs(f[12], w, length, 0) || !whole(f[13], &mark)))
+    return "no case";
+  const struct ibz_undo_answer u = ibz_undo(block, sizeof block, m, length, journal, JOURNAL, next);
+  if (u.number != refusal) return "number after the undo";
+  if (memcmp(block, start, sizeof start) != 0) return "slots after the undo";
+  if (memcmp(m, w, length) != 0) return "memory after the undo";
+  if (u.mark != mark) return "mark after the undo";
+  return NULL;
+}
+
+static const char *compared(char **f, unsigned fields, uint8_t *m, uint8_t *w, size_t length) {
+  if (!put_slots(f[5], block) || !put_runs(f[6], m, length, 0)) return "no case";
+  memcpy(goal, block, sizeof goal), memcpy(start, block, sizeof start);
+  put_runs(f[6], w, length, 0);
+  memset(journal, 0xA5, JOURNAL), memset(record, 0xA5, JOURNAL);
+  const size_t n = put_bytes(f[9], record + MARK, JOURNAL - MARK, 0);
+  if (n == 0 || f[9][2 * n] != 0 || !change_slots(f[7], goal) || !put_runs(f[8], w, length, 0)) return "no case";
+  const char *found = step_differs(f, m, w, length, MARK + n);
+  return found != NULL ? found : undo_differs(f, fields, m, w, length, MARK + n);
+}
+
+/* What differs first, or NULL. The line is cut into its fields, so that its name is left. */
 static const char *tried(char *line) {
-  char *f[FIELDS];
-  line[strcspn(line, "\r\n")] = 0;
-  for (unsigned i = 0; i < FIELDS; i++) {
-    f[i] = line;
-    line += strcspn(line, " ");
-    if ((*line == 0) != (i == FIELDS - 1)) return "is no case";
-    *line++ = 0;
+  char *f[FIELDS_WITH_UNDO];
+  unsigned fields = 0;
+  uint32_t length;
+  const size_t bytes = strcspn(line, "\n");
+  for (line[bytes] = 0; line != NULL && fields < FIELDS_WITH_UNDO; fields++) {
+    f[fields] = line;
+    line = strchr(line, ' ');
+    if (line != NULL) *line++ = 0;
   }
-  const size_t length = strtoul(f[2], NULL, 16);
-  if (length < SMALL || length > LARGEST) return "has a memory of a length that is not tried";
+  if (bytes > LONGEST || line != NULL || (fields != FIELDS && fields != FIELDS_WITH_UNDO)) return "no case";
+  if (!whole(f[2], &length) || length < LEAST || length > LARGEST || length % 2 != 0) return "no case";
   uint8_t *m = memory + (LARGEST - length), *w = wanted + (LARGEST - length); /* their ends are at the guards */
-  const char *found = compared(f, m, w, length);
+  const char *found = compared(f, fields, m, w, length);
   put_runs(f[6], m, length, 1), put_runs(f[8], m, length, 1), put_runs(f[6], w, length, 1), put_runs(f[8], w, length, 1);
   if (found != NULL) memset(memory, 0, LARGEST), memset(wanted, 0, LARGEST);
   return found;
@@ -91,14 +130,15 @@ static const char *tried(char *line) {
 
 int main(int argc, char **argv) {
   static char line[1 << 20];
-  unsigned long differ = 0;
+  int as_wanted = 1;
   memory = guarded(LARGEST, 1), wanted = guarded(LARGEST, 1);
   for (unsigned long n = 1; fgets(line, sizeof line, stdin) != NULL; n++) {
     const char *found = tried(line);
     if (found == NULL) holds++;
-    else if (++differ <= 20) printf("line %lu, %s: %s\n", n, line, found);
+    else if (++fails <= TOLD) printf("line %lu %s: %s\n", n, line, found);
+    if ((found != NULL) != (strncmp(line, "wrong:", 6) == 0)) as_wanted = 0;
   }
-  fails += differ;
-  if (argc > 1 && holds != strtoul(argv[1], NULL, 10)) fails++;
-  return verdict("cases");
+  if (argc > 2 && (holds != strtoul(argv[1], NULL, 10) || fails != strtoul(argv[2], NULL, 10))) as_wanted = 0;
+  verdict("cases");
+  return !as_wanted || holds == 0;
 }

@@ -7,6 +7,7 @@ void *memset(void *, int, size_t);
 int memcmp(const void *, const void *, size_t);
 char *strchr(const char *, int);
 int strcmp(const char *, const char *);
+int strncmp(const char *, const char *, size_t);
 size_t strlen(const char *);
 size_t strcspn(const char *, const char *);
 size_t strspn(const char *, const char *);

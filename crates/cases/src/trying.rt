@@ -1,6 +1,7 @@
 // trying.rt - one case: its step and the undo of it, each compared whole with what the line lists.
-// Means: nothing; proved safe.
+// Means: what agrees is equal, of the two that compare; else nothing, proved safe.
 // Uses: codes, machine.  Source: [01 Calls and what they give back], crates/vectors/README.md.
+ghost use mathlib.Core.Path.{_≡_};
 use crate::setting::change_slots;
 use crate::setting::fill;
 use crate::setting::put_bytes;
@@ -30,7 +31,7 @@ pub const STEP_MARK: u32 = 6;
 
 pub const STEP_JOURNAL: u32 = 7;
 
-pub const UNDO_REFUSED: u32 = 8;
+pub const UNDO_NUMBER: u32 = 8;
 
 pub const UNDO_SLOTS: u32 = 9;
 
@@ -40,6 +41,11 @@ pub const UNDO_MARK: u32 = 11;
 
 // the mark that a step is given: bytes before it are seen to stay
 const MARK: usize = 1000;
+
+// spaces of a line that says nothing of its undo, and of one that does
+const SPACES: usize = 9;
+
+const SPACES_WITH_UNDO: usize = 13;
 
 // Field k of a line, counted from 0.
 fn field(text: &[u8], k: usize) -> &[u8] {
@@ -66,10 +72,34 @@ fn put_after(text: &[u8], slots: &mut [u32; SLOTS], memory: &mut [u8], journal: 
     slots_good & runs_good & record_good
 }
 
-// An answer's refusal and mark.
+// Where the line says so, what the undo is to leave other than it was before the step.
+fn put_undone(text: &[u8], slots: &mut [u32; SLOTS], memory: &mut [u8]) -> bool {
+    if marks(text, b' ') == SPACES {
+        return true;
+    }
+    let slots_good = change_slots(field(text, 11), slots);
+    let runs_good = put_runs(field(text, 12), memory, false);
+    slots_good & runs_good
+}
+
+// An answer's number and mark.
 struct Answer {
-    number: u32,
+    number: u64,
     mark: usize,
+}
+
+// The undo's answer that is wanted.
+fn undo_wanted(text: &[u8]) -> Answer {
+    if marks(text, b' ') == SPACES {
+        return Answer {
+            number: 0,
+            mark: MARK,
+        };
+    }
+    Answer {
+        number: number(field(text, 10)),
+        mark: number(field(text, 13)) as usize,
+    }
 }
 
 fn step(
@@ -81,7 +111,7 @@ fn step(
 ) -> Answer {
     let answer = machine::step(slots, memory, level, vector, journal, MARK);
     Answer {
-        number: answer.number,
+        number: answer.number as u64,
         mark: answer.mark,
     }
 }
@@ -89,12 +119,12 @@ fn step(
 fn undo(slots: &mut [u32; SLOTS], memory: &mut [u8], journal: &[u8], mark: usize) -> Answer {
     let answer = machine::undo(slots, memory, journal, mark);
     Answer {
-        number: answer.number,
+        number: answer.number as u64,
         mark: answer.mark,
     }
 }
 
-// Takes the step, and compares with the goal.
+// Takes the step, and compares with the goal. Only where slots, memory and journal are equal does it agree.
 fn compare_step(
     text: &[u8],
     slots: &mut [u32; SLOTS],
@@ -103,7 +133,11 @@ fn compare_step(
     wanted: &[u8],
     journal: &mut [u8],
     record: &[u8],
-) -> u32 {
+) -> u32
+    ensures { λ r. ⌜ (r ≡ 0 → now (slots .exit) ≡ now (goal .entry)) ⌝ }
+    ensures { λ r. ⌜ (r ≡ 0 → now (memory .exit) ≡ now (wanted .entry)) ⌝ }
+    ensures { λ r. ⌜ (r ≡ 0 → now (journal .exit) ≡ now («record» .entry)) ⌝ }
+{
     let level = number(field(text, 3));
     let vector = number(field(text, 4));
     if NO_NUMBER <= level {
@@ -131,7 +165,7 @@ fn compare_step(
     AGREES
 }
 
-// Undoes the step, and compares with what was before it.
+// Undoes the step, and compares with the goal. Only where slots and memory are equal does it agree.
 fn compare_undo(
     text: &[u8],
     slots: &mut [u32; SLOTS],
@@ -139,10 +173,14 @@ fn compare_undo(
     memory: &mut [u8],
     wanted: &[u8],
     journal: &[u8],
-) -> u32 {
+) -> u32
+    ensures { λ r. ⌜ (r ≡ 0 → now (slots .exit) ≡ now (goal .entry)) ⌝ }
+    ensures { λ r. ⌜ (r ≡ 0 → now (memory .exit) ≡ now (wanted .entry)) ⌝ }
+{
+    let due = undo_wanted(text);
     let answer = undo(slots, memory, journal, next_mark(text));
-    if answer.number != 0 {
-        return UNDO_REFUSED;
+    if answer.number != due.number {
+        return UNDO_NUMBER;
     }
     if !same_slots(slots, goal) {
         return UNDO_SLOTS;
@@ -150,7 +188,7 @@ fn compare_undo(
     if !same(memory, wanted) {
         return UNDO_MEMORY;
     }
-    if answer.mark != MARK {
+    if answer.mark != due.mark {
         return UNDO_MARK;
     }
     AGREES
@@ -172,6 +210,9 @@ fn compare_both(
     }
     put_runs(field(text, 8), wanted, true);
     put_before(text, goal, wanted);
+    if !put_undone(text, goal, wanted) {
+        return MALFORMED;
+    }
     compare_undo(text, slots, goal, memory, wanted, journal)
 }
 
@@ -215,9 +256,24 @@ fn on_zeros(text: &[u8], memory: &mut [u8], wanted: &mut [u8]) -> u32 {
     with_filled(text, memory, wanted, &mut journal, &mut record)
 }
 
+// Whether a line has ten fields, or fourteen of which those of the undo's answer are numbers.
+fn has_fields(text: &[u8]) -> bool {
+    let spaces = marks(text, b' ');
+    if spaces == SPACES {
+        return true;
+    }
+    if spaces != SPACES_WITH_UNDO {
+        return false;
+    }
+    if NO_NUMBER <= number(field(text, 10)) {
+        return false;
+    }
+    number(field(text, 13)) < NO_NUMBER
+}
+
 // The length of a case's memory, or 0 if the line is no case.
 pub fn memory_length(text: &[u8]) -> usize {
-    if marks(text, b' ') != 9 {
+    if !has_fields(text) {
         return 0;
     }
     let n = number(field(text, 2));

@@ -1,16 +1,93 @@
 // main.rt - 01's examples that are run and compared: ADD.B, the halt of $4AFC with an odd SSP, the journal's 535 and 536 bytes, budget 0.
 // Means: nothing; its stored output is 01's text, worked out by hand.
-// Uses: codes, machine, io.  Source: [01 Set down and proved].
+// Uses: codes, machine, cases, io.  Source: [01 Set down and proved].
+//
+// What a call leaves is held against what 01 says, and then, so that a comparison which forgets something is seen, against the same with
+// one slot or one byte altered, each of them in its turn: all of those must differ.
+ghost use mathlib.Core.Path.{_≡_};
+ghost use Prim.Native.Nat.{_≤_, _<_};
+ghost use lib.ListN.{length};
+ghost use Rattle.codes.specs.Codes.{Slots};
+use cases::setting::same;
+use cases::setting::same_slots;
 use codes::SLOTS;
 
-// Numbers on one line, with a space after each.
-fn show(n: u32) {
-    io::print_decimal(1, n as u64);
-    io::write_all(1, b" ");
+fn show_count(label: &[u8], n: u64) {
+    io::write_all(1, label);
+    io::print_decimal(1, n);
+}
+
+fn show(label: &[u8], n: u32) {
+    show_count(label, n as u64);
 }
 
 fn end_line() {
     io::write_all(1, b"\n");
+}
+
+fn tell(what: &[u8], is_same: bool, altered: u64) {
+    io::write_all(1, what);
+    if is_same {
+        io::write_all(1, b" as 01 says");
+    } else {
+        io::write_all(1, b" other than 01 says");
+    }
+    show_count(b", altered ones that differ ", altered);
+    end_line();
+}
+
+fn one_unless(b: bool) -> u64
+    ensures { λ r. ⌜ r ≤ 1 ⌝ }
+{
+    if b { 0 } else { 1 }
+}
+
+// Whether the slots are those of the paper with slot k altered.
+fn same_but(slots: &[u32; SLOTS], paper: [u32; SLOTS], k: usize) -> bool
+    requires { ⌜ k < Slots ⌝ }
+{
+    let mut wrong = paper;
+    wrong[k] = wrong[k] ^ 1;
+    same_slots(slots, &wrong)
+}
+
+fn tell_slots(slots: &[u32; SLOTS], paper: [u32; SLOTS]) {
+    let mut altered: u64 = 0;
+    for k in 0..SLOTS {
+        altered += one_unless(same_but(slots, paper, k));
+    }
+    tell(b"slots", same_slots(slots, &paper), altered);
+}
+
+// Whether the bytes are those of the paper with byte i altered.
+fn same_bytes_but(bytes: &[u8], paper: &mut [u8], i: usize) -> bool
+    requires { ⌜ i < length (now paper) ⌝ }
+    ensures { λ _. ⌜ length (now (paper .exit)) ≡ length (now (paper .entry)) ⌝ }
+{
+    let b = paper[i];
+    paper[i] = b ^ 1;
+    let found = same(bytes, paper);
+    paper[i] = b;
+    found
+}
+
+fn tell_bytes(what: &[u8], bytes: &[u8], paper: &mut [u8]) {
+    let is_same = same(bytes, paper);
+    let mut altered: u64 = 0;
+    for i in 0..paper.len() {
+        altered += one_unless(same_bytes_but(bytes, paper, i));
+    }
+    tell(what, is_same, altered);
+}
+
+fn tell_memory(memory: &[u8; 1024], paper: [u8; 1024]) {
+    let mut stays = paper;
+    tell_bytes(b"memory", memory, &mut stays);
+}
+
+fn tell_journal(journal: &[u8; 536], paper: [u8; 536]) {
+    let mut wanted = paper;
+    tell_bytes(b"journal", journal, &mut wanted);
 }
 
 // A memory of 1,024 bytes with the word at $200.
@@ -21,87 +98,97 @@ fn memory_with(high: u8, low: u8) -> [u8; 1024] {
     m
 }
 
-// Twenty slots: D0 and D1, SSP, PC $200, SR $2700 and the mode.
-fn slots_with(d0: u32, d1: u32, ssp: u32, mode: u32) -> [u32; SLOTS] {
-    [
-        d0,
-        d1,
-        0,
-        0,
-        0,
-        0,
-        0,
-        0,
-        0,
-        0,
-        0,
-        0,
-        0,
-        0,
-        0,
-        0,
-        ssp,
-        512,
-        9984,
-        mode,
-    ]
+// Twenty slots: D0 and D1, SSP, PC, SR and the mode.
+fn slots_with(d0: u32, d1: u32, ssp: u32, pc: u32, sr: u32, mode: u32) -> [u32; SLOTS] {
+    let mut s = [0u32; SLOTS];
+    s[0] = d0;
+    s[1] = d1;
+    s[codes::SSP] = ssp;
+    s[codes::PC] = pc;
+    s[codes::SR] = sr;
+    s[codes::MODE] = mode;
+    s
 }
 
-// ADD.B D1,D0 of $7F and $01: the result and the five flags.
+// ADD.B D1,D0 of $7F and $01: $80, with N and V, and PC behind it.
 fn add_byte() {
-    let mut s = slots_with(127, 1, 1024, 0);
+    let mut s = slots_with(127, 1, 1024, 512, 9984, 0);
     let mut m = memory_with(208, 1);
     let mut j = [0u8; 536];
     let a = machine::step(&mut s, &mut m, 0, 0, &mut j, 0);
-    show(a.number);
-    show(s[0]);
-    show(s[codes::SR] % codes::FLAG_VALUES);
+    show(b"ADD.B $7F + $01: number ", a.number);
+    show(b", D0 ", s[0]);
+    show(b", flags ", s[codes::SR] % codes::FLAG_VALUES);
     end_line();
+    tell_slots(&s, slots_with(128, 1, 1024, 514, 9994, 0));
+    tell_memory(&m, memory_with(208, 1));
 }
 
-// $4AFC with SSP $301: mode, SSP, PC and SR after it, and the record's length.
+// The record of a mode that was 0: slot 19, old value 0, one slot, no byte.
+fn record_of_mode() -> [u8; 536] {
+    let mut j = [0u8; 536];
+    j[0] = 19;
+    j[2] = 1;
+    j
+}
+
+// $4AFC with SSP $301: mode 2 only.
 fn odd_stack() {
-    let mut s = slots_with(0, 0, 769, 0);
+    let mut s = slots_with(0, 0, 769, 512, 9984, 0);
     let mut m = memory_with(74, 252);
     let mut j = [0u8; 536];
     let a = machine::step(&mut s, &mut m, 0, 0, &mut j, 0);
-    show(a.number);
-    show(s[codes::MODE]);
-    show(s[codes::SSP]);
-    show(s[codes::PC]);
-    show(s[codes::SR]);
-    io::print_decimal(1, a.mark as u64);
+    show(b"$4AFC with SSP $301: number ", a.number);
+    show(b", mode ", s[codes::MODE]);
+    show_count(b", mark ", a.mark as u64);
     end_line();
+    tell_slots(&s, slots_with(0, 0, 769, 512, 9984, 2));
+    tell_memory(&m, memory_with(74, 252));
+    tell_journal(&j, record_of_mode());
 }
 
-// A step with 535 journal bytes free, and with 536.
+// A step with 535 journal bytes free: refused, and nothing is altered.
+fn journal_too_short() {
+    let mut s = slots_with(0, 0, 1024, 512, 9984, 0);
+    let mut m = memory_with(112, 1);
+    let mut j = [0u8; 535];
+    let a = machine::step(&mut s, &mut m, 0, 0, &mut j, 0);
+    show(b"535 journal bytes: number ", a.number);
+    end_line();
+    tell_slots(&s, slots_with(0, 0, 1024, 512, 9984, 0));
+    tell_memory(&m, memory_with(112, 1));
+}
+
+// And with 536: MOVEQ #1,D0 is done.
 fn journal_room() {
-    let mut s = slots_with(0, 0, 1024, 0);
-    let mut m = memory_with(96, 254);
-    let mut short = [0u8; 535];
-    let a = machine::step(&mut s, &mut m, 0, 0, &mut short, 0);
-    show(a.number);
-    let mut enough = [0u8; 536];
-    let b = machine::step(&mut s, &mut m, 0, 0, &mut enough, 0);
-    show(b.number);
+    let mut s = slots_with(0, 0, 1024, 512, 9984, 0);
+    let mut m = memory_with(112, 1);
+    let mut j = [0u8; 536];
+    let a = machine::step(&mut s, &mut m, 0, 0, &mut j, 0);
+    show(b"536 journal bytes: number ", a.number);
     end_line();
+    tell_slots(&s, slots_with(1, 0, 1024, 514, 9984, 0));
+    tell_memory(&m, memory_with(112, 1));
 }
 
-// A run with budget 0 on a halted machine: the number, the reason and the steps.
+// A run with budget 0 on a halted machine: reason 1, and nothing is altered.
 fn no_budget() {
-    let mut s = slots_with(0, 0, 1024, 2);
+    let mut s = slots_with(0, 0, 1024, 512, 9984, 2);
     let mut m = memory_with(96, 254);
     let mut j = [0u8; 536];
     let a = machine::run(&mut s, &mut m, 0, 0, &mut j, 0);
-    show(a.number);
-    show(a.reason);
-    show(a.steps);
+    show(b"budget 0 on a halted machine: number ", a.number);
+    show(b", reason ", a.reason);
+    show(b", steps ", a.steps);
     end_line();
+    tell_slots(&s, slots_with(0, 0, 1024, 512, 9984, 2));
+    tell_memory(&m, memory_with(96, 254));
 }
 
 fn main() {
     add_byte();
     odd_stack();
+    journal_too_short();
     journal_room();
     no_budget();
 }

@@ -1,0 +1,48 @@
+use Prim.Native.Nat.{_≤_, _-_}
+use native.Mathlib.Omega.{arith}
+use denote.Ref.{now}
+use lib.ListN.{length}
+use borrow.Author.Needs.{needs}
+use Rattle.cases.proofs.SameLaws.{SameTo, same-start, same-next, same-end, same-of-lengths}
+use Rattle.cases.proofs.setting.same_words.Statement.{statement}
+use Rattle.cases.proofs.setting.same_words.Tie as tie
+
+abbrev Inv-loop : tie.InvT-loop
+Inv-loop v w d₀ k₀ k-end d k = (k ≤ length v) × SameTo k d v w
+
+abbrev μ-loop : tie.MeasureT-loop
+μ-loop v w d₀ k₀ k-end d k = length v - k
+
+returns : tie.Need-returns Inv-loop μ-loop
+returns c = let a = c .before .args in same-of-lengths (now (a .v)) (now (a .w)) (omega arith)
+
+loop-holds : tie.Need-loop-holds Inv-loop μ-loop
+loop-holds c = let a = c .before .args in (omega arith, same-start (now (a .v)) (now (a .w)))
+
+loop-again : tie.Need-loop-again Inv-loop μ-loop
+loop-again c =
+    let q = c .before .before .before .loop in
+    let a = c .before .before .before .before .before .args in
+    (omega arith, same-next (now (a .v)) (now (a .w)) (q .k) (q .d) (omega arith) (omega arith) (q .inv .1))
+
+returns-2 : tie.Need-returns-2 Inv-loop μ-loop
+returns-2 c =
+    let q = c .before .loop in
+    let a = c .before .before .before .args in
+    same-end (now (a .v)) (now (a .w)) (q .k) (q .d) (omega arith) (omega arith) (q .inv .1)
+
+pub same-words-spec : {M : Type 1} → statement M
+same-words-spec =
+    tie.close (tie.spec
+    Inv-loop
+    μ-loop
+    returns
+    loop-holds
+    (λ c. search needs)
+    (λ c. search needs)
+    (λ c. search needs)
+    (λ c. search needs)
+    (λ c. search needs)
+    (λ c. search needs)
+    loop-again
+    returns-2)

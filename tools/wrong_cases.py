@@ -1,0 +1,172 @@
+#!/usr/bin/env python3
+"""Writes the gate's cases and, after them, lines that must differ: each is a true case with one thing altered.
+
+Usage: tools/select_vectors.py FOLDER | tools/wrong_cases.py crates/vectors
+
+Standard input is the chosen cases (crates/vectors/README.md). crates/vectors/stdin gets them and then the wrong lines,
+each named by what was altered, `wrong:slot-0`; crates/vectors/stdout gets what `vectors` has to say of them all. What
+it has to say of a wrong line follows from what was altered here, and from nothing that a program said.
+"""
+import pathlib
+import sys
+
+# Of these two the wrong lines are made: a MOVE to memory, and an address error, whose record is long.
+MOVE = "MOVE.L:Dn>-(An) a "
+FAULT = "MOVE.L:-(An)>-(An) f "
+
+STEP_NUMBER = "the step is refused"
+STEP_SLOTS = "slots after the step"
+STEP_MEMORY = "memory after the step"
+STEP_MARK = "mark after the step"
+STEP_JOURNAL = "journal after the step"
+UNDO_NUMBER = "number after the undo"
+UNDO_SLOTS = "slots after the undo"
+UNDO_MEMORY = "memory after the undo"
+UNDO_MARK = "mark after the undo"
+NO_CASE = "no case"
+
+SLOTS = 20
+MARK = 1000
+LONGEST = 8192
+
+# fields of a line, counted from 0
+NAME, LENGTH, LEVEL, VECTOR, START, MEMORY, SLOTS_AFTER, MEMORY_AFTER, RECORD = 0, 2, 3, 4, 5, 6, 7, 8, 9
+
+
+def bytes_of(runs):
+    """The bytes of a list of runs, by place."""
+    found = {}
+    for run in runs.split(",") if runs != "-" else []:
+        place, digits = run.split(":")
+        for i, b in enumerate(bytes.fromhex(digits)):
+            found[int(place, 16) + i] = b
+    return found
+
+
+def listed(items):
+    return ",".join(items) or "-"
+
+
+def runs_of(found):
+    """A list of runs of one byte each."""
+    return listed(f"{place:x}:{b:02x}" for place, b in sorted(found.items()))
+
+
+class Case:
+    """A true case: slots and bytes before and after its step."""
+
+    def __init__(self, line):
+        self.fields = line.split(" ")
+        self.length = int(self.fields[LENGTH], 16)
+        self.start = [int(v, 16) for v in self.fields[START].split(",")]
+        self.slots = list(self.start)
+        for change in self.fields[SLOTS_AFTER].split(","):
+            slot, value = change.split("=")
+            self.slots[int(slot)] = int(value, 16)
+        self.memory = bytes_of(self.fields[MEMORY])
+        self.changed = bytes_of(self.fields[MEMORY_AFTER])
+        self.record = bytes.fromhex(self.fields[RECORD])
+        self.wrote = min(self.changed)
+
+    def but(self, name, *altered, more=()):
+        """The line with some fields altered, and with further ones."""
+        fields = list(self.fields)
+        fields[NAME] = f"wrong:{name}"
+        for k, text in altered:
+            fields[k] = text
+        return " ".join([*fields, *more])
+
+    def changes(self, slots):
+        return listed(f"{k}={v:x}" for k, v in enumerate(slots) if v != self.start[k])
+
+    def places(self):
+        """Where a byte is altered: both ends, about the middle, and where the step writes."""
+        middle = self.length // 2
+        return {"first": 0, "second": 1, "before-middle": middle - 1, "middle": middle,
+                "last-but-one": self.length - 2, "last": self.length - 1, "written": self.wrote}
+
+
+def with_bit(values, k, bit):
+    return [v ^ (1 << bit if i == k else 0) for i, v in enumerate(values)]
+
+
+def step_lines(case, fault):
+    """What is compared after the step."""
+    halted = listed(f"{v:x}" for v in [*case.start[:-1], 2])
+    yield STEP_NUMBER, case.but("halted", (START, halted))
+    for k in range(SLOTS):
+        wrong = with_bit(case.slots, k, k * 13 % 32)
+        yield STEP_SLOTS, case.but(f"slot-{k}", (SLOTS_AFTER, case.changes(wrong)))
+    for bit, (name, place) in enumerate(case.places().items()):
+        after = case.memory | case.changed
+        wrong = case.changed | {place: after.get(place, 0) ^ 1 << bit}
+        yield STEP_MEMORY, case.but(f"memory-{name}", (MEMORY_AFTER, runs_of(wrong)))
+    record = fault.record
+    yield STEP_MARK, fault.but("record-too-long", (RECORD, record.hex() + "00"))
+    yield STEP_MARK, fault.but("record-too-short", (RECORD, record[:-1].hex()))
+    for name, at, bit in ("first", 0, 0), ("middle", len(record) // 2, 4), ("last", len(record) - 1, 7):
+        yield STEP_JOURNAL, fault.but(f"record-{name}", (RECORD, bytes(with_bit(record, at, bit)).hex()))
+
+
+def undo_lines(case):
+    """What is compared after the undo."""
+    def undone(name, number="0", slots="-", memory="-", mark=f"{MARK:x}"):
+        return case.but(f"undo-{name}", more=(number, slots, memory, mark))
+
+    yield UNDO_NUMBER, undone("refused", number="8")
+    for k in range(SLOTS):
+        wrong = with_bit(case.start, k, k * 13 % 32)
+        yield UNDO_SLOTS, undone(f"slot-{k}", slots=case.changes(wrong))
+    for bit, (name, place) in enumerate(case.places().items()):
+        yield UNDO_MEMORY, undone(f"memory-{name}", memory=runs_of({place: case.memory.get(place, 0) ^ 1 << bit}))
+    yield UNDO_MEMORY, undone("memory-stays", memory=case.fields[MEMORY_AFTER])
+    for name, mark in ("lower", MARK - 1), ("higher", MARK + 1), ("stays", MARK + len(case.record)):
+        yield UNDO_MARK, undone(f"mark-{name}", mark=f"{mark:x}")
+
+
+def no_cases(case):
+    """Lines that are no case."""
+    fields = case.fields
+    yield " ".join(["wrong:nine-fields", *fields[1:9]])
+    for name, further in ("eleven-fields", "0"), ("thirteen-fields", "0 - -"), ("fifteen-fields", "0 - - 3e8 0"):
+        yield case.but(name, more=further.split(" "))
+    zeros = "00" * (LONGEST // 2)
+    yield case.but("too-long", (MEMORY, fields[MEMORY] + ",0:" + zeros))
+    for name, k, text in (
+            ("length-letter", LENGTH, "g0000"), ("length-odd", LENGTH, "10001"), ("length-small", LENGTH, "3fe"),
+            ("length-large", LENGTH, "1000002"), ("level-letter", LEVEL, "x"), ("vector-large", VECTOR, "100"),
+            ("slot-letter", START, "g" + fields[START][1:]), ("slots-too-few", START, fields[START].rpartition(",")[0]),
+            ("slots-too-many", START, fields[START] + ",0"), ("memory-letter", MEMORY, "0:0o"),
+            ("memory-past-end", MEMORY, fields[MEMORY] + ",ffff:0000"), ("slot-20", SLOTS_AFTER, "20=0"),
+            ("slot-value-letter", SLOTS_AFTER, "17=z"), ("memory-after-letter", MEMORY_AFTER, "0:g0"),
+            ("record-letter", RECORD, "0z" + fields[RECORD][2:]), ("record-half-byte", RECORD, fields[RECORD] + "0")):
+        yield case.but(name, (k, text))
+    for name, further in (
+            ("number-letter", "g - - 3e8"), ("slot-20", "0 20=0 - 3e8"), ("memory-letter", "0 - 0:0g 3e8"),
+            ("mark-letter", "0 - - k")):
+        yield case.but(f"undo-{name}", more=further.split(" "))
+
+
+def wrong_lines(cases):
+    """What is to be said, and the line, for each."""
+    move, fault = (Case(next(c for c in cases if c.startswith(name))) for name in (MOVE, FAULT))
+    yield from step_lines(move, fault)
+    yield from undo_lines(move)
+    for line in no_cases(move):
+        yield NO_CASE, line
+
+
+def main():
+    if len(sys.argv) != 2:
+        sys.exit(__doc__)
+    folder = pathlib.Path(sys.argv[1])
+    cases = sys.stdin.read().splitlines()
+    wrong = list(wrong_lines(cases))
+    said = [f"line {n} {line.split(' ')[NAME]}: {reason}" for n, (reason, line) in enumerate(wrong, len(cases) + 1)]
+    said.append(f"agree {len(cases)}, differ {len(wrong)}, skipped 0")
+    for name, lines in ("stdin", [*cases, *(line for _, line in wrong)]), ("stdout", said):
+        (folder / name).write_text("".join(f"{line}\n" for line in lines), encoding="ascii")
+
+
+if __name__ == "__main__":
+    main()
