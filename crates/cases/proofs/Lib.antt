@@ -1,1 +1,1 @@
-pub mod SameLaws
+pub mod VerdictLaws

@@ -1,6 +1,6 @@
 // lib.rt - cases: reads lines that list slots and bytes, puts what they list, takes a step and its undo, and compares.
 // Means: nothing; proved safe.
-// Uses: codes, machine, io, libc.  Source: [ours], crates/vectors/README.md.
+// Uses: codes, machine, compare, io, libc.  Source: [ours], crates/vectors/README.md.
 pub mod lines;
 pub mod setting;
 pub mod text;

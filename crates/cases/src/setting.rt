@@ -1,7 +1,6 @@
-// setting.rt - puts what a line lists into slots and bytes, and compares.
-// Means: specs/Same.antt, of the two that compare; else nothing, proved safe.  Laws: proofs/SameLaws.antt.
+// setting.rt - puts what a line lists into slots and bytes.
+// Means: nothing; proved safe.
 // Uses: codes, text.  Source: [ours], crates/vectors/README.md.
-ghost use Rattle.cases.specs.Same.{TellsSame};
 use crate::text::NO_BYTE;
 use crate::text::NO_NUMBER;
 use crate::text::byte_at;
@@ -126,39 +125,4 @@ pub fn fill(to: &mut [u8]) {
     for i in 0..to.len() {
         put_byte(to, i, (i % 251) as u32);
     }
-}
-
-// Whether lengths and all bytes are equal. No loop of a comparison has a way out, so that many places are compared at once.
-pub fn same(a: &[u8], b: &[u8]) -> bool
-    ensures { λ r. ⌜ TellsSame r (now (a .entry)) (now (b .entry)) ⌝ }
-{
-    if a.len() != b.len() {
-        return false;
-    }
-    let mut d: u8 = 0;
-    for i in 0..a.len() {
-        d = d | (a[i] ^ b[i]);
-    }
-    d == 0
-}
-
-// The same of words.
-fn same_words(v: &[u32], w: &[u32]) -> bool
-    ensures { λ r. ⌜ TellsSame r (now (v .entry)) (now (w .entry)) ⌝ }
-{
-    if v.len() != w.len() {
-        return false;
-    }
-    let mut d: u32 = 0;
-    for k in 0..v.len() {
-        d = d | (v[k] ^ w[k]);
-    }
-    d == 0
-}
-
-// Whether all slots are equal.
-pub fn same_slots(s: &[u32; SLOTS], t: &[u32; SLOTS]) -> bool
-    ensures { λ r. ⌜ TellsSame r (now (s .entry)) (now (t .entry)) ⌝ }
-{
-    same_words(s, t)
 }

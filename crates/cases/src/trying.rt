@@ -1,19 +1,19 @@
 // trying.rt - one case: its step and the undo of it, each compared whole with what the line lists.
 // Means: what agrees is equal, of the two that compare; else nothing, proved safe.
-// Uses: codes, machine.  Source: [01 Calls and what they give back], crates/vectors/README.md.
+// Uses: codes, machine, compare.  Source: [01 Calls and what they give back], crates/vectors/README.md.
 ghost use mathlib.Core.Path.{_≡_};
 use crate::setting::change_slots;
 use crate::setting::fill;
 use crate::setting::put_bytes;
 use crate::setting::put_runs;
 use crate::setting::put_slots;
-use crate::setting::same;
-use crate::setting::same_slots;
 use crate::text::NO_NUMBER;
 use crate::text::marks;
 use crate::text::number;
 use crate::text::piece;
 use codes::SLOTS;
+use compare::same;
+use compare::same_slots;
 
 pub const AGREES: u32 = 0;
 

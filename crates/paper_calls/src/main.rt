@@ -1,6 +1,6 @@
 // main.rt - 01's examples that are run and compared: ADD.B, the halt of $4AFC with an odd SSP, the journal's 535 and 536 bytes, budget 0.
 // Means: nothing; its stored output is 01's text, worked out by hand.
-// Uses: codes, machine, cases, io.  Source: [01 Set down and proved].
+// Uses: codes, machine, compare, io.  Source: [01 Set down and proved].
 //
 // What a call leaves is held against what 01 says, and then, so that a comparison which forgets something is seen, against the same with
 // one slot or one byte altered, each of them in its turn: all of those must differ.
@@ -8,9 +8,9 @@ ghost use mathlib.Core.Path.{_≡_};
 ghost use Prim.Native.Nat.{_≤_, _<_};
 ghost use lib.ListN.{length};
 ghost use Rattle.codes.specs.Codes.{Slots};
-use cases::setting::same;
-use cases::setting::same_slots;
 use codes::SLOTS;
+use compare::same;
+use compare::same_slots;
 
 fn show_count(label: &[u8], n: u64) {
     io::write_all(1, label);

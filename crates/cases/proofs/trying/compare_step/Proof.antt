@@ -1,7 +1,7 @@
 -- compare_step: only what was found equal agrees.
 use borrow.Author.Needs.{needs}
 use borrow.Author.Tests.{not-false}
-use Rattle.cases.proofs.SameLaws.{differing}
+use Rattle.cases.proofs.VerdictLaws.{differing}
 use Rattle.cases.proofs.trying.compare_step.Statement.{statement}
 use Rattle.cases.proofs.trying.compare_step.Tie as tie
 

@@ -1,5 +1,5 @@
 -- Same.antt - what a comparison of two lists has to tell.
--- Met by: src/setting.rt.  Laws: proofs/SameLaws.antt.
+-- Met by: src/lib.rt.  Laws: proofs/SameLaws.antt.
 -- Source: [ours].
 use Prim.Native.Nat.{ℕ}
 use mathlib.Core.Path.{_≡_}

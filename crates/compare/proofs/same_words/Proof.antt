@@ -3,9 +3,9 @@ use native.Mathlib.Omega.{arith}
 use denote.Ref.{now}
 use lib.ListN.{length}
 use borrow.Author.Needs.{needs}
-use Rattle.cases.proofs.SameLaws.{SameTo, same-start, same-next, same-end, same-of-lengths}
-use Rattle.cases.proofs.setting.same_words.Statement.{statement}
-use Rattle.cases.proofs.setting.same_words.Tie as tie
+use Rattle.compare.proofs.SameLaws.{SameTo, same-start, same-next, same-end, same-of-lengths}
+use Rattle.compare.proofs.same_words.Statement.{statement}
+use Rattle.compare.proofs.same_words.Tie as tie
 
 abbrev Inv-loop : tie.InvT-loop
 Inv-loop v w d₀ k₀ k-end d k = (k ≤ length v) × SameTo k d v w

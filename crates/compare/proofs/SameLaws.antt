@@ -1,7 +1,7 @@
 -- SameLaws.antt - the laws of comparing two lists by the bits in which they differ, one law for each turn or return of the code.
 -- Speaks of: TellsSame of specs/Same.antt.
 -- Assumes nothing.  Source: [ours].
-use Prim.Native.Nat.{ℕ, suc, _+_, _≤_, _<_}
+use Prim.Native.Nat.{ℕ, _+_, _≤_, _<_}
 use mathlib.Core.Path.{_≡_, refl, sym, ap, ap₂, _∙_}
 use mathlib.Core.Bool.{Bool, true, false}
 use mathlib.Core.List.{List, [], _∷_, _++_}
@@ -12,7 +12,7 @@ use lib.Dec.{eqb}
 use lib.ListN.{length, take, getD}
 use lib.Seq.{take-all, take-suc}
 use borrow.Author.Tests.{eqb-true, eq-eqb}
-use Rattle.cases.specs.Same.{TellsSame}
+use Rattle.compare.specs.Same.{TellsSame}
 
 or-left : (a b : ℕ) → bitOr a b ≡ 0 → a ≡ 0
 or-left a b e = omega (arith, e, or-add-and a b, and-le-l a b, and-le-r a b)
@@ -57,7 +57,3 @@ module _ (a b : List ℕ) where
 
   pub same-of-lengths : (length a ≡ length b → ⊥) → TellsSame false a b
   same-of-lengths h = (λ t. absurd (let z : _≡_ {A = ℕ} 0 1 = cc in omega arith), λ e. absurd (h (ap length e)))
-
--- A verdict other than 0 says nothing of what is equal.
-pub differing : {P : Type 0} {n : ℕ} → suc n ≡ 0 → P
-differing e = absurd (omega arith)

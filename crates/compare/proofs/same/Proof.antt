@@ -3,9 +3,9 @@ use native.Mathlib.Omega.{arith}
 use denote.Ref.{now}
 use lib.ListN.{length}
 use borrow.Author.Needs.{needs}
-use Rattle.cases.proofs.SameLaws.{SameTo, same-start, same-next, same-end, same-of-lengths}
-use Rattle.cases.proofs.setting.same.Statement.{statement}
-use Rattle.cases.proofs.setting.same.Tie as tie
+use Rattle.compare.proofs.SameLaws.{SameTo, same-start, same-next, same-end, same-of-lengths}
+use Rattle.compare.proofs.same.Statement.{statement}
+use Rattle.compare.proofs.same.Tie as tie
 
 abbrev Inv-loop : tie.InvT-loop
 Inv-loop a b d₀ i₀ i-end d i = (i ≤ length a) × SameTo i d a b
