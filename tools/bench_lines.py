@@ -15,8 +15,8 @@ SSP = 0x400
 
 # by name: where the MOVEQs are, and the place of the byte that is altered
 IMAGES = {
-    "plain.bin": (0x200, None), "middle.bin": (0x200, LENGTH // 2 - 1), "last.bin": (0x200, LENGTH - 1),
-    "place.bin": (0x202, None)}
+    "plain.image": (0x200, None), "middle.image": (0x200, LENGTH // 2 - 1), "last.image": (0x200, LENGTH - 1),
+    "place.image": (0x202, None)}
 
 
 def hashed(data):

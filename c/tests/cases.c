@@ -124,7 +124,7 @@ static const char *tried(char *line) {
   uint8_t *m = memory + (LARGEST - length), *w = wanted + (LARGEST - length); /* their ends are at the guards */
   const char *found = compared(f, fields, m, w, length);
   put_runs(f[6], m, length, 1), put_runs(f[8], m, length, 1), put_runs(f[6], w, length, 1), put_runs(f[8], w, length, 1);
-  if (found != NULL) memset(memory, 0, LARGEST), memset(wanted, 0, LARGEST);
+  if (found != NULL || fields == FIELDS_WITH_UNDO) memset(memory, 0, LARGEST), memset(wanted, 0, LARGEST);
   return found;
 }
 

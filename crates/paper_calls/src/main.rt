@@ -90,6 +90,11 @@ fn tell_journal(journal: &[u8; 536], paper: [u8; 536]) {
     tell_bytes(b"journal", journal, &mut wanted);
 }
 
+fn tell_short_journal(journal: &[u8; 535], paper: [u8; 535]) {
+    let mut wanted = paper;
+    tell_bytes(b"journal", journal, &mut wanted);
+}
+
 // A memory of 1,024 bytes with the word at $200.
 fn memory_with(high: u8, low: u8) -> [u8; 1024] {
     let mut m = [0u8; 1024];
@@ -157,6 +162,7 @@ fn journal_too_short() {
     end_line();
     tell_slots(&s, slots_with(0, 0, 1024, 512, 9984, 0));
     tell_memory(&m, memory_with(112, 1));
+    tell_short_journal(&j, [0u8; 535]);
 }
 
 // And with 536: MOVEQ #1,D0 is done.
@@ -185,10 +191,20 @@ fn no_budget() {
     tell_memory(&m, memory_with(96, 254));
 }
 
+// The halt held against what 01 does not say: with one altered, the right mode or the right byte comes out, and that one is the same.
+fn not_said() {
+    let s = slots_with(0, 0, 769, 512, 9984, 2);
+    let m = memory_with(74, 252);
+    io::write_all(1, b"not said by 01\n");
+    tell_slots(&s, slots_with(0, 0, 769, 512, 9984, 3));
+    tell_memory(&m, memory_with(74, 253));
+}
+
 fn main() {
     add_byte();
     odd_stack();
     journal_too_short();
     journal_room();
     no_budget();
+    not_said();
 }

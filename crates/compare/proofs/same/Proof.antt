@@ -1,3 +1,4 @@
+-- same: the bits found so far are 0 exactly where the places so far are equal.
 use Prim.Native.Nat.{_≤_, _-_}
 use native.Mathlib.Omega.{arith}
 use denote.Ref.{now}
