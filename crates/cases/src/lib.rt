@@ -1,5 +1,5 @@
 // lib.rt - cases: reads lines that list slots and bytes, puts what they list, takes a step and its undo, and compares.
-// Means: nothing; proved safe.
+// Means: of trying, that what agrees is equal; else nothing, proved safe.
 // Uses: codes, machine, compare, io, libc.  Source: [ours], crates/vectors/README.md.
 pub mod lines;
 pub mod setting;
