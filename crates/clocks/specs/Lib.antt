@@ -1,0 +1,4 @@
+pub mod Tables
+pub mod Clocks
+pub mod Lines
+pub mod Unrolled
