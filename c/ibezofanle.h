@@ -39,7 +39,7 @@
 extern "C" {
 #endif
 
-#define IBZ_VERSION 1
+#define IBZ_VERSION 2
 
 /* ---- sizes and limits */
 
@@ -50,6 +50,7 @@ extern "C" {
 #define IBZ_MEMORY_MOST 16777216u
 #define IBZ_LEVEL_MOST 7u          /* an interrupt's level */
 #define IBZ_BUDGET_MOST 1000000u   /* steps of a run */
+#define IBZ_CLOCKS_MOST 204u       /* clocks of a step; a run has at most IBZ_BUDGET_MOST times as many */
 
 /* ---- the block */
 
@@ -102,6 +103,16 @@ enum ibz_reason {
 #define IBZ_EVENT_NONE 0u
 #define IBZ_EVENT_HALT 257u
 
+/* `clocks` of a step or a run: clock periods of an MC68000, by Appendix D of the M68000 Programmer's Reference Manual, and a maximum
+ * where the manual gives only that (division; BCHG, BSET and BCLR of a register).
+ *   An instruction counts its line with the time of its operands' addresses; a shift, MOVEM and a multiplication by their formulas.
+ *   A step that takes an exception other than trace counts the exception's line alone, and CHK's the time of its operand beside it: 34
+ *   for an illegal or privileged instruction, line 1010 or 1111 and TRAPV, 38 TRAP, 42 a division by zero, 44 CHK and an interrupt, 50 a
+ *   bus or address error. A trace adds 34. An exception or a trace whose frame could not be written, so that the machine halts, counts 0.
+ *   A stopped machine that takes no interrupt counts 4.
+ * A step has at most 204, a run the sum of its steps, at most 204,000,000; a call that is refused has 0. An undo gives no clocks: who adds
+ * them up keeps the sums that going back is to lead to. */
+
 struct ibz_reset_answer {
   uint32_t number; /* enum ibz_number */
 };
@@ -110,6 +121,7 @@ struct ibz_step_answer {
   uint32_t number; /* enum ibz_number */
   uint32_t event;  /* what happened; 0 if refused */
   size_t mark;     /* the next call's mark */
+  uint32_t clocks; /* clocks of the step; 0 if refused */
 };
 
 struct ibz_run_answer {
@@ -117,6 +129,7 @@ struct ibz_run_answer {
   uint32_t reason; /* enum ibz_reason: why it ended */
   size_t mark;     /* the next call's mark */
   uint32_t steps;  /* how many steps were done: so many undos take the run back */
+  uint32_t clocks; /* clocks of these steps together; 0 if refused */
 };
 
 struct ibz_undo_answer {

@@ -1,17 +1,32 @@
 #!/usr/bin/env python3
-"""Writes small images for `bench`, and what it has to say of them: worked out here, not by a run.
+"""Writes what the gate asks of `bench`, and what it has to say: from outside numbers, or worked out here; not by a run.
 
-Usage: tools/bench_lines.py crates/bench
+Usage: tools/bench_lines.py FOLDER crates/bench
 
-The images have 1,024 bytes: SSP, PC, and at PC two MOVEQs. Each but the first has one thing altered, so that a hash of
-memory or of the journal which passes over it tells a wrong number. Their lines come last in crates/bench/args and
-crates/bench/stdout; what stands before them there stays.
+FOLDER has the outside numbers of the four programs in crates/bench/data: runref.txt, what so many steps of each give,
+and clocksums.txt, the sum of their clocks. The small images are written here. They have 1,024 bytes: SSP, PC, and at PC
+two MOVEQs, whose clocks are 4 each by table D-5 of 003. Each but the first has one thing altered, so that a hash of
+memory or of the journal which passes over it tells a wrong number. crates/bench/args and crates/bench/stdout are
+written whole.
 """
 import pathlib
 import sys
 
+# the four programs, and after how many steps they are asked
+PROGRAMS = ("memcpy.bin", "sort.bin", "crc.bin", "calls.bin")
+COUNTS = (1, 10, 100, 1000, 10000, 100000)
+
+# two of them once more, with a journal that is full after a few steps
+SHORT = ("calls.bin", "sort.bin")
+SHORT_JOURNAL = 600
+SHORT_COUNT = 10000
+
+# and as they are measured: the steps alone; each undone and done again, so that its clocks count twice
+MEASURED = (("speed", 1), ("undo", 2))
+
 LENGTH = 1024
 SSP = 0x400
+MOVEQ_CLOCKS = 4
 
 # by name: where the MOVEQs are, and the place of the byte that is altered
 IMAGES = {
@@ -51,22 +66,61 @@ def line(pc, data, steps):
     journal = b"".join(number(v) for r in records for v in r)
     slots = [steps] + [0] * 15 + [SSP, pc + 2 * steps, 0x2700, 0]
     return (f"steps {steps} journal {len(journal)} jhash {hashed(journal):08x} memhash {hashed(data):08x} "
-            f"state {','.join(f'{v:x}' for v in slots)}\n")
+            f"clocks {MOVEQ_CLOCKS * steps} state {','.join(f'{v:x}' for v in slots)}\n")
+
+
+class Outside:
+    """The outside numbers of the four programs, by name and steps."""
+
+    def __init__(self, folder):
+        self.before, self.slots, self.clocks = {}, {}, {}
+        for text in (folder / "runref.txt").read_text().splitlines():
+            program, _, told = text.partition(" ")
+            before, _, slots = told.partition(" state ")
+            key = program, int(before.split(" ")[1])
+            self.before[key], self.slots[key] = before, slots
+        for text in (folder / "clocksums.txt").read_text().splitlines():
+            if not text.startswith("#"):
+                program, steps, clocks, _ = text.split(" ")
+                self.clocks[program, int(steps)] = int(clocks)
+
+    def line(self, *key):
+        return f"{self.before[key]} {self.measured(1, *key)}"
+
+    def measured(self, times, *key):
+        """What is told where steps are only measured."""
+        return f"clocks {times * self.clocks[key]} state {self.slots[key]}\n"
+
+
+def programs(outside):
+    """What is asked of the four programs, and what is to be said."""
+    args, said = [], ""
+    for program in PROGRAMS:
+        args += ["image", program, *COUNTS]
+        said += "".join(outside.line(program, count) for count in COUNTS)
+    args += ["memory", 65536, "journal", SHORT_JOURNAL]
+    for program in SHORT:
+        args += ["image", program, SHORT_COUNT]
+        said += outside.line(program, SHORT_COUNT)
+        for word, times in MEASURED:
+            args += [word, SHORT_COUNT]
+            said += outside.measured(times, program, SHORT_COUNT)
+    return args, said
 
 
 def main():
-    if len(sys.argv) != 2:
+    if len(sys.argv) != 3:
         sys.exit(__doc__)
-    folder = pathlib.Path(sys.argv[1])
-    args, said = f"memory\n{LENGTH}\n", ""
+    folder = pathlib.Path(sys.argv[2])
+    args, said = programs(Outside(pathlib.Path(sys.argv[1])))
+    args += ["memory", LENGTH]
     for name, (pc, altered) in IMAGES.items():
         data = image(pc, altered)
         (folder / "data" / name).write_bytes(data)
-        args += f"image\n{name}\n1\n2\n"
+        args += ["image", name, 1, 2]
         said += line(pc, data, 1) + line(pc, data, 2)
-    for name, text in ("args", args), ("stdout", said):
-        path = folder / name
-        path.write_text(path.read_text().replace(text, "") + text)
+    (folder / "args").write_text("".join(f"{word}\n" for word in args))
+    (folder / "stdout").write_text(said)
 
 
 if __name__ == "__main__":

@@ -3,10 +3,11 @@
 
 Usage: tools/select_vectors.py FOLDER | tools/wrong_cases.py crates/vectors
 
-FOLDER holds the vector files, *.vec.gz, a case to a line (crates/vectors/README.md). Chosen are, of the cases whose
-memory is 65,536 bytes or less: all of choice, halt, interrupt and scope; of every other file three cases of each name,
-spread evenly over those that it has; and what is then still missing of three for each flag string. Where there are
-fewer than three, all. The choice depends on nothing but the files, and keeps their order.
+FOLDER holds the vector files, NAME.vec.gz, a case to a line (crates/vectors/README.md), and beside each k2/NAME.clk.gz,
+the clocks of its cases in the same order, a number to a line: they become the line's field clocks=N. Chosen are, of the
+cases whose memory is 65,536 bytes or less: all of choice, halt, interrupt and scope; of every other file three cases of
+each name, spread evenly over those that it has; and what is then still missing of three for each flag string. Where
+there are fewer than three, all. The choice depends on nothing but the files, and keeps their order.
 """
 import collections
 import gzip
@@ -25,6 +26,18 @@ def spread(items, n):
     return [items[i * (len(items) - 1) // (n - 1)] for i in range(n)]
 
 
+def timed(path):
+    """The cases of a file, each with its clocks."""
+    with gzip.open(path, "rt", encoding="ascii") as cases:
+        lines = cases.read().splitlines()
+    clocks = path.parent / "k2" / path.name.replace(".vec.gz", ".clk.gz")
+    with gzip.open(clocks, "rt", encoding="ascii") as numbers:
+        counts = numbers.read().split()
+    if len(lines) != len(counts):
+        sys.exit(f"{path} has {len(lines)} cases, {clocks} {len(counts)}")
+    return [f"{line} clocks={n}\n" for line, n in zip(lines, counts)]
+
+
 def main():
     if len(sys.argv) != 2:
         sys.exit(__doc__)
@@ -35,7 +48,7 @@ def main():
     for path in files:
         kind = path.name.split(".")[0]
         by_name = collections.defaultdict(list)
-        for line in gzip.open(path, "rt", encoding="ascii"):
+        for line in timed(path):
             name, flags, length = line.split(" ", 3)[:3]
             if int(length, 16) > LARGEST:
                 continue

@@ -10,15 +10,29 @@ it has to say of a wrong line follows from what was altered here, and from nothi
 import pathlib
 import sys
 
-# Of these two the wrong lines are made: a MOVE to memory, and an address error, whose record is long.
+# Of these two most wrong lines are made: a MOVE to memory, and an address error, whose record is long.
 MOVE = "MOVE.L:Dn>-(An) a "
 FAULT = "MOVE.L:-(An)>-(An) f "
+
+# Lines with wrong clocks: what is altered, the case that it is altered of, and what is added to its clocks (None: the
+# line says 0). Every rule of K2 has one; the numbers are those of Appendix D.
+CLOCKS = (
+    ("one-more", MOVE, 1), ("one-fewer", MOVE, -1), ("none", MOVE, None), ("256-more", MOVE, 256),
+    ("65536-more", MOVE, 65536), ("10000000-more", MOVE, 10000000), ("fault-none", FAULT, None),
+    ("fault-with-trace", "MOVE.W:(An)>(An) ft ", 34), ("trap-none", "TRAP:> a ", None),
+    ("trap-as-illegal", "TRAP:> a ", -4), ("trap-without-operand", "CHK:(An)>Dn ap ", -4),
+    ("line-1010-none", "LINEA:> a ", None), ("trace-left-out", "MOVEQ:q>Dn t ", -34),
+    ("trace-of-trap-left-out", "TRAP:> t ", -34),
+    ("trace-twice", "NOP:> t ", 34), ("trace-that-halts", "MOVEA.W:Dn>An th ", 34), ("halted", "ILLEGAL:> h ", 34),
+    ("interrupt-none", "INT:taken> i ", None), ("interrupt-one-more", "INT:taken> i ", 1),
+    ("interrupt-halted", "INT:taken> ih ", 44), ("stopped-none", "INT:stopped-not-taken> i ", None))
 
 STEP_NUMBER = "the step is refused"
 STEP_SLOTS = "slots after the step"
 STEP_MEMORY = "memory after the step"
 STEP_MARK = "mark after the step"
 STEP_JOURNAL = "journal after the step"
+STEP_CLOCKS = "clocks of the step"
 UNDO_NUMBER = "number after the undo"
 UNDO_SLOTS = "slots after the undo"
 UNDO_MEMORY = "memory after the undo"
@@ -29,8 +43,10 @@ SLOTS = 20
 MARK = 1000
 LONGEST = 8192
 
-# fields of a line, counted from 0
+# fields of a line, counted from 0; after these, a true case has its clocks
 NAME, LENGTH, LEVEL, VECTOR, START, MEMORY, SLOTS_AFTER, MEMORY_AFTER, RECORD = 0, 2, 3, 4, 5, 6, 7, 8, 9
+FIELDS = 10
+CLOCKS_NAME = "clocks="
 
 
 def bytes_of(runs):
@@ -56,25 +72,28 @@ class Case:
     """A true case: slots and bytes before and after its step."""
 
     def __init__(self, line):
-        self.fields = line.split(" ")
+        *self.fields, self.timed = line.split(" ")
+        if len(self.fields) != FIELDS or not self.timed.startswith(CLOCKS_NAME):
+            sys.exit(f"no case with clocks: {line}")
+        self.clocks = int(self.timed[len(CLOCKS_NAME):])
         self.length = int(self.fields[LENGTH], 16)
         self.start = [int(v, 16) for v in self.fields[START].split(",")]
         self.slots = list(self.start)
-        for change in self.fields[SLOTS_AFTER].split(","):
+        for change in self.fields[SLOTS_AFTER].split(",") if self.fields[SLOTS_AFTER] != "-" else []:
             slot, value = change.split("=")
             self.slots[int(slot)] = int(value, 16)
         self.memory = bytes_of(self.fields[MEMORY])
         self.changed = bytes_of(self.fields[MEMORY_AFTER])
         self.record = bytes.fromhex(self.fields[RECORD])
-        self.wrote = min(self.changed)
+        self.wrote = min(self.changed, default=0)
 
-    def but(self, name, *altered, more=()):
-        """The line with some fields altered, and with further ones."""
+    def but(self, name, *altered, undo=(), last=None):
+        """The line with some fields altered, with those of its undo, and at last its clocks or what is given."""
         fields = list(self.fields)
         fields[NAME] = f"wrong:{name}"
         for k, text in altered:
             fields[k] = text
-        return " ".join([*fields, *more])
+        return " ".join([*fields, *undo, *([self.timed] if last is None else last)])
 
     def changes(self, slots):
         return listed(f"{k}={v:x}" for k, v in enumerate(slots) if v != self.start[k])
@@ -108,10 +127,25 @@ def step_lines(case, fault):
         yield STEP_JOURNAL, fault.but(f"record-{name}", (RECORD, bytes(with_bit(record, at, bit)).hex()))
 
 
+def clocks_lines(cases):
+    """The clocks of the step; and lines that say none, where other things are still compared."""
+    for name, begins, more in CLOCKS:
+        case = Case(next(c for c in cases if c.startswith(begins)))
+        wrong = 0 if more is None else case.clocks + more
+        assert 0 <= wrong != case.clocks, name
+        yield STEP_CLOCKS, case.but(f"clocks-{name}", last=[f"{CLOCKS_NAME}{wrong}"])
+    move = Case(next(c for c in cases if c.startswith(MOVE)))
+    good = ["0", "-", "-", f"{MARK:x}"]
+    yield STEP_CLOCKS, move.but("clocks-before-undo", undo=good, last=[f"{CLOCKS_NAME}{move.clocks + 2}"])
+    changes = move.changes(with_bit(move.slots, 0, 0))
+    yield STEP_SLOTS, move.but("no-clocks-slot-0", (SLOTS_AFTER, changes), last=())
+    yield UNDO_MARK, move.but("no-clocks-undo-mark", undo=[*good[:3], "0"], last=())
+
+
 def undo_lines(case):
     """What is compared after the undo."""
     def undone(name, number="0", slots="-", memory="-", mark=f"{MARK:x}"):
-        return case.but(f"undo-{name}", more=(number, slots, memory, mark))
+        return case.but(f"undo-{name}", undo=(number, slots, memory, mark))
 
     yield UNDO_NUMBER, undone("refused", number="8")
     for k in range(SLOTS):
@@ -129,7 +163,7 @@ def no_cases(case):
     fields = case.fields
     yield " ".join(["wrong:nine-fields", *fields[1:9]])
     for name, further in ("eleven-fields", "0"), ("thirteen-fields", "0 - -"), ("fifteen-fields", "0 - - 3e8 0"):
-        yield case.but(name, more=further.split(" "))
+        yield case.but(name, last=further.split(" "))
     zeros = "00" * (LONGEST // 2)
     yield case.but("too-long", (MEMORY, fields[MEMORY] + ",0:" + zeros))
     for name, k, text in (
@@ -144,13 +178,26 @@ def no_cases(case):
     for name, further in (
             ("number-letter", "g - - 3e8"), ("slot-20", "0 20=0 - 3e8"), ("memory-letter", "0 - 0:0g 3e8"),
             ("mark-letter", "0 - - k")):
-        yield case.but(f"undo-{name}", more=further.split(" "))
+        yield case.but(f"undo-{name}", undo=further.split(" "))
+    right = case.clocks
+    yield " ".join(["wrong:nine-fields-and-clocks", *fields[1:9], case.timed])
+    for name, last in (
+            ("letter", f"clocks={right}x"), ("no-digit", "clocks="), ("base-16", "clocks=1f"), ("minus", "clocks=-4"),
+            ("nine-digits", f"clocks={right:09}"), ("twice", f"{case.timed} {case.timed}"),
+            ("two-signs", f"clocks=={right}"), ("no-sign", "clocks"), ("no-name", f"={right}"),
+            ("other-name", f"clock={right}"), ("capitals", f"CLOCKS={right}"), ("two-spaces", f" {case.timed}"),
+            ("after-other-field", f"window=0,10000 {case.timed}"),
+            ("before-other-field", f"{case.timed} window=0,10000")):
+        yield case.but(f"clocks-{name}", last=[last])
+    yield case.but("other-field", last=["window=0,10000"])
+    yield case.but("undo-clocks-letter", undo=["0", "-", "-", f"{MARK:x}"], last=["clocks=x"])
 
 
 def wrong_lines(cases):
     """What is to be said, and the line, for each."""
     move, fault = (Case(next(c for c in cases if c.startswith(name))) for name in (MOVE, FAULT))
     yield from step_lines(move, fault)
+    yield from clocks_lines(cases)
     yield from undo_lines(move)
     for line in no_cases(move):
         yield NO_CASE, line

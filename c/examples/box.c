@@ -13,6 +13,16 @@ static uint8_t block[IBZ_BLOCK_LENGTH], *memory, *journal;
 static size_t memory_length = 65536, journal_length = 1048576, mark;
 static unsigned long standing; /* steps that can be taken back */
 
+/* The clocks since the reset; and, for going back, what they were where steps or runs ended: the first of these is where the way back
+ * ends. A record has two bytes or more, so there are never more than half the journal's. */
+struct place {
+  unsigned long standing;
+  unsigned long long clocks;
+};
+static unsigned long long clocks;
+static struct place *places;
+static size_t last;
+
 static const char help[] =
     "step [N]              do N steps (1), and show each\n"
     "run [N] [ADDRESS]     do N steps (1000000), or fewer: until PC is ADDRESS, or the machine stops, halts, or the journal is full\n"
@@ -34,14 +44,16 @@ static void show_status(void) {
   printf("  %s", modes[ibz_get(block, IBZ_MODE) % 3u]);
 }
 
-/* One line: how many steps stand, where the machine is, and the word there. */
-static void show_place(void) {
+/* One line: how many steps stand, where the machine is, the word there, and the clocks, with those since `before`. */
+static void show_place(unsigned long long before) {
   const uint32_t pc = ibz_get(block, IBZ_PC), at = pc & 0xFFFFFFu;
   printf("%8lu  PC %08X  ", standing, (unsigned)pc);
   if (at + 1u < memory_length) printf("%02X%02X", memory[at], memory[at + 1u]);
   else printf("----");
   printf("  ");
   show_status();
+  printf("  %llu clocks", clocks);
+  if (clocks > before) printf(" (+%llu)", clocks - before);
   puts("");
 }
 
@@ -52,7 +64,7 @@ static void show_registers(void) {
   printf("PC %08X  ", (unsigned)ibz_get(block, IBZ_PC));
   printf("USP %08X  SSP %08X\n", (unsigned)ibz_get(block, IBZ_USP), (unsigned)ibz_get(block, IBZ_SSP));
   show_status();
-  printf("\n%lu steps can be taken back; %zu of %zu journal bytes used\n", standing, mark, journal_length);
+  printf("  %llu clocks\n%lu steps can be taken back; %zu of %zu journal bytes used\n", clocks, standing, mark, journal_length);
 }
 
 static void show_memory(unsigned long at, unsigned long n) {
@@ -75,30 +87,49 @@ static void show_refusal(uint32_t number) {
 
 /* ---- what is done */
 
-static void reset(void) {
-  const struct ibz_reset_answer a = ibz_reset(block, sizeof block, memory, memory_length);
+/* Keeps the machine as it is, and gives up the way back. */
+static void forget(void) {
   mark = 0;
   standing = 0;
+  last = 0;
+  places[0].clocks = clocks;
+  show_place(clocks);
+}
+
+static void reset(void) {
+  const struct ibz_reset_answer a = ibz_reset(block, sizeof block, memory, memory_length);
   if (a.number != IBZ_DONE) show_refusal(a.number);
-  show_place();
+  clocks = 0;
+  forget();
+}
+
+/* After steps that were done. */
+static void noted(size_t next, uint32_t steps, uint32_t more) {
+  mark = next;
+  standing += steps;
+  clocks += more;
+  if (steps == 0) return;
+  places[++last].standing = standing;
+  places[last].clocks = clocks;
 }
 
 static int step(uint32_t level, uint8_t vector) {
+  const unsigned long long before = clocks;
   const struct ibz_step_answer a = ibz_step(block, sizeof block, memory, memory_length, level, vector, journal, journal_length, mark);
   if (a.number != IBZ_DONE) {
     show_refusal(a.number);
     return 0;
   }
-  mark = a.mark;
-  standing++;
+  noted(a.mark, 1, a.clocks);
   if (a.event == IBZ_EVENT_HALT) puts("          halted");
   else if (a.event != IBZ_EVENT_NONE) printf("          exception: vector %u\n", (unsigned)a.event - 1u);
-  show_place();
+  show_place(before);
   return 1;
 }
 
 /* A run has at most IBZ_BUDGET_MOST steps: more are several runs. */
 static void run(unsigned long n, uint32_t stop) {
+  const unsigned long long before = clocks;
   struct ibz_run_answer a;
   unsigned long done = 0;
   do {
@@ -108,31 +139,35 @@ static void run(unsigned long n, uint32_t stop) {
       show_refusal(a.number);
       return;
     }
-    mark = a.mark;
-    standing += a.steps;
+    noted(a.mark, a.steps, a.clocks);
     done += a.steps;
   } while (a.reason == IBZ_REASON_BUDGET && done < n);
   printf("          %lu steps: %s\n", done, ibz_reason_text(a.reason));
-  show_place();
+  show_place(before);
 }
 
+static int undo(void) {
+  const struct ibz_undo_answer a = ibz_undo(block, sizeof block, memory, memory_length, journal, journal_length, mark);
+  mark = a.mark;
+  standing -= a.number == IBZ_DONE;
+  if (a.number != IBZ_DONE) show_refusal(a.number);
+  return a.number == IBZ_DONE;
+}
+
+/* An undo tells no clocks. They are those of the last place before, and where that is within a run, of the steps of the run up to here:
+ * they are taken back too, and done again. */
 static void back(unsigned long n) {
+  for (; n > 0 && undo(); n--) {}
+  while (places[last].standing > standing) last--;
+  clocks = places[last].clocks;
+  for (n = 0; standing > places[last].standing && undo(); n++) {}
   for (; n > 0; n--) {
-    const struct ibz_undo_answer a = ibz_undo(block, sizeof block, memory, memory_length, journal, journal_length, mark);
-    if (a.number != IBZ_DONE) {
-      show_refusal(a.number);
-      break;
-    }
+    const struct ibz_step_answer a = ibz_step(block, sizeof block, memory, memory_length, 0, 0, journal, journal_length, mark);
     mark = a.mark;
-    standing--;
+    standing++;
+    clocks += a.clocks;
   }
-  show_place();
-}
-
-static void forget(void) {
-  mark = 0;
-  standing = 0;
-  show_place();
+  show_place(clocks);
 }
 
 /* ---- what is asked */
@@ -204,8 +239,9 @@ int main(int argc, char **argv) {
     return usage();
   memory = (uint8_t *)calloc(memory_length, 1);
   journal = (uint8_t *)calloc(journal_length, 1);
+  places = (struct place *)calloc(journal_length / 2 + 1, sizeof *places);
   FILE *f = fopen(argv[i], "rb");
-  if (memory == NULL || journal == NULL || f == NULL) {
+  if (memory == NULL || journal == NULL || places == NULL || f == NULL) {
     fprintf(stderr, f == NULL ? "box: can't read %s\n" : "box: no memory for %s\n", argv[i]);
     return 2;
   }
@@ -219,5 +255,6 @@ int main(int argc, char **argv) {
     if (!asked(line)) break;
   free(memory);
   free(journal);
+  free(places);
   return 0;
 }

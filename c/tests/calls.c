@@ -42,11 +42,11 @@ static struct ibz_undo_answer undo(size_t mark) { return ibz_undo(block, BLOCK, 
 
 /* A refusal: its number, the mark as given, 0 for the rest, and no byte altered. */
 static int step_refused(struct ibz_step_answer a, uint32_t number, size_t mark) {
-  return a.number == number && a.event == 0 && a.mark == mark && kept();
+  return a.number == number && a.event == 0 && a.mark == mark && a.clocks == 0 && kept();
 }
 
 static int run_refused(struct ibz_run_answer a, uint32_t number, size_t mark) {
-  return a.number == number && a.reason == 0 && a.steps == 0 && a.mark == mark && kept();
+  return a.number == number && a.reason == 0 && a.steps == 0 && a.mark == mark && a.clocks == 0 && kept();
 }
 
 static int undo_refused(struct ibz_undo_answer a, uint32_t number, size_t mark) {
@@ -243,8 +243,9 @@ static void resets(void) {
   EXPECT(memcmp(memory, old_memory, MEMORY) == 0 && memcmp(journal, old_journal, JOURNAL) == 0);
 }
 
+/* Each step of these is a branch: 10 clocks. */
 static int ran(struct ibz_run_answer a, uint32_t reason, uint32_t steps, size_t mark) {
-  return a.number == 0 && a.reason == reason && a.steps == steps && a.mark == mark;
+  return a.number == 0 && a.reason == reason && a.steps == steps && a.mark == mark && a.clocks == 10 * steps;
 }
 
 static struct ibz_run_answer run(uint32_t budget, uint32_t stop, size_t length, size_t mark) {
@@ -271,21 +272,22 @@ static void examples(void) {
   fresh(0x7001); /* MOVEQ #1,D0 */
   struct ibz_step_answer a = step(0, 0, 0);
   EXPECT(a.number == 0 && a.event == IBZ_EVENT_NONE && a.mark == 7 && recorded("\x00\x00\x11\x04\x80\x02\x00", 7));
-  EXPECT(ibz_get(block, IBZ_D0) == 1 && ibz_get(block, IBZ_PC) == 0x202);
+  EXPECT(ibz_get(block, IBZ_D0) == 1 && ibz_get(block, IBZ_PC) == 0x202 && a.clocks == 4);
   fresh(0x60FE); /* BRA to itself */
   a = step(0, 0, 0);
-  EXPECT(a.number == 0 && a.mark == 2 && recorded("\x00\x00", 2) && memcmp(block, old_block, BLOCK) == 0);
+  EXPECT(a.number == 0 && a.mark == 2 && recorded("\x00\x00", 2) && memcmp(block, old_block, BLOCK) == 0 && a.clocks == 10);
   fresh(0x1080); /* MOVE.B D0,(A0) */
   ibz_set(block, IBZ_D0, 0xFF), ibz_set(block, IBZ_A0, 0x300);
   a = step(0, 0, 0);
   EXPECT(a.mark == 10 && recorded("\x11\x04\x80\x12\x00\x06\x80\x00\x02\x01", 10));
-  EXPECT(memory[0x300] == 0xFF && ibz_get(block, IBZ_SR) == 8);
+  EXPECT(memory[0x300] == 0xFF && ibz_get(block, IBZ_SR) == 8 && a.clocks == 8);
   fresh(0xD001); /* ADD.B D1,D0: $7F + $01 is $80, N and V, no C */
   ibz_set(block, IBZ_D0, 0x7F), ibz_set(block, IBZ_D1, 1);
   EXPECT(step(0, 0, 0).number == 0 && ibz_get(block, IBZ_D0) == 0x80 && ibz_get(block, IBZ_SR) == 0x0A);
   fresh(0x83C0); /* DIVS D0,D1: -7 by 2 */
   ibz_set(block, IBZ_D0, 2), ibz_set(block, IBZ_D1, 0xFFFFFFF9u);
-  EXPECT(step(0, 0, 0).number == 0 && ibz_get(block, IBZ_D1) == 0xFFFFFFFDu);
+  a = step(0, 0, 0);
+  EXPECT(a.number == 0 && a.clocks == 158 && ibz_get(block, IBZ_D1) == 0xFFFFFFFDu);
   fresh(0xC3C0); /* MULS D0,D1: $8000 by $8000 */
   ibz_set(block, IBZ_D0, 0x8000), ibz_set(block, IBZ_D1, 0x8000);
   EXPECT(step(0, 0, 0).number == 0 && ibz_get(block, IBZ_D1) == 0x40000000u);
@@ -300,12 +302,13 @@ static void examples(void) {
   ibz_set(block, IBZ_SSP, 0x301);
   a = step(0, 0, 0);
   EXPECT(a.number == 0 && a.event == IBZ_EVENT_HALT && a.mark == 4 && recorded("\x13\x00\x01\x00", 4) && ibz_get(block, IBZ_MODE) == 2);
+  EXPECT(a.clocks == 0);
   fresh(0x46FC); /* MOVE to SR in user state: vector 8, its own address is saved */
   ibz_set(block, IBZ_USP, 0x2000), ibz_set(block, IBZ_SSP, 0x1000);
   put(0x22, 0x0400);
   EXPECT(ibz_get_a7(block) == 0x2000);
   a = step(0, 0, 0);
-  EXPECT(a.number == 0 && a.event == 8 + 1 && ibz_get(block, IBZ_PC) == 0x400 && ibz_get(block, IBZ_SSP) == 0xFFA);
+  EXPECT(a.number == 0 && a.event == 8 + 1 && ibz_get(block, IBZ_PC) == 0x400 && ibz_get(block, IBZ_SSP) == 0xFFA && a.clocks == 34);
   EXPECT(memory[0xFFE] == 2 && memory[0xFFF] == 0 && ibz_get_a7(block) == 0xFFA && ibz_get(block, IBZ_SR) == 0x2000);
   fresh(0x7001); /* interrupts at level 7; every bit of the vector's byte counts */
   ibz_set(block, IBZ_SSP, 0x1000);
@@ -313,9 +316,9 @@ static void examples(void) {
   a = step(7, 64, 0);
   EXPECT(a.number == 0 && a.event == 64 + 1 && ibz_get(block, IBZ_PC) == 0x500 && ibz_get(block, IBZ_SR) == 0x2700);
   a = step(7, 255, a.mark);
-  EXPECT(a.number == 0 && a.event == 255 + 1 && ibz_get(block, IBZ_PC) == 0x600);
+  EXPECT(a.number == 0 && a.event == 255 + 1 && ibz_get(block, IBZ_PC) == 0x600 && a.clocks == 44);
   a = step(0, 255, a.mark); /* at level 0 the vector is ignored: ORI.B #0,D0 */
-  EXPECT(a.number == 0 && a.event == IBZ_EVENT_NONE && ibz_get(block, IBZ_PC) == 0x604);
+  EXPECT(a.number == 0 && a.event == IBZ_EVENT_NONE && ibz_get(block, IBZ_PC) == 0x604 && a.clocks == 8);
 }
 
 /* ---- the way back, on the same block and on others */
@@ -332,6 +335,7 @@ static size_t program(uint8_t *b, uint8_t *m, uint8_t *j) {
   ibz_reset(b, BLOCK, m, MEMORY);
   const struct ibz_run_answer a = ibz_run(b, BLOCK, m, MEMORY, 8, 0xFFFFFFFFu, j, JOURNAL, 0);
   EXPECT(a.number == 0 && a.steps == 8 && ibz_get(b, IBZ_PC) == 0x40A);
+  EXPECT(a.clocks == 4 + 12 + 18 + 16 + 16 + 38 + 20 + 10); /* MOVEQ MOVE BSR CLR RTS TRAP RTE BRA */
   return a.mark;
 }
 
@@ -379,11 +383,12 @@ static void way_back(void) {
 /* ---- what the header declares */
 
 static void layout(void) {
-  EXPECT(sizeof(struct ibz_reset_answer) == 4 && sizeof(struct ibz_step_answer) == 16);
+  EXPECT(sizeof(struct ibz_reset_answer) == 4 && sizeof(struct ibz_step_answer) == 24);
   EXPECT(sizeof(struct ibz_run_answer) == 24 && sizeof(struct ibz_undo_answer) == 16);
   EXPECT(offsetof(struct ibz_step_answer, event) == 4 && offsetof(struct ibz_run_answer, reason) == 4);
   EXPECT(offsetof(struct ibz_step_answer, mark) == 8 && offsetof(struct ibz_run_answer, mark) == 8);
   EXPECT(offsetof(struct ibz_undo_answer, mark) == 8 && offsetof(struct ibz_run_answer, steps) == 16);
+  EXPECT(offsetof(struct ibz_step_answer, clocks) == 16 && offsetof(struct ibz_run_answer, clocks) == 20 && IBZ_VERSION == 2);
   for (unsigned i = 0; i < IBZ_SLOTS; i++) {
     memset(block, 0x5A, sizeof block);
     ibz_set(block, i, 0x89ABCDEFu);

@@ -1,11 +1,12 @@
 /* cases.c - single-step cases through the C calls: one step and its undo each, compared whole.
- * A case is a line of ten fields or fourteen (crates/vectors/README.md), read from standard input. A line whose name begins with `wrong:`
- * must not hold, every other must; and where two numbers are given as arguments, so many must hold and so many must not. Each line that
- * does not hold is told with what differed first, the first hundred of them. The mark is 1,000, so that what stands before it is seen to
- * stay; memory ends where pages that can not be touched begin. */
+ * A case is a line of ten fields or fourteen, and perhaps clocks after them (crates/vectors/README.md), read from standard input. A line
+ * whose name begins with `wrong:` must not hold, every other must; and where two numbers are given as arguments, so many must hold and so
+ * many must not. Each line that does not hold is told with what differed first, the first two hundred of them. The mark is 1,000, so that
+ * what stands before it is seen to stay; memory ends where pages that can not be touched begin. */
 #include "tests.h"
 
-enum { FIELDS = 10, FIELDS_WITH_UNDO = 14, MARK = 1000, JOURNAL = 4096, LEAST = 1024, LARGEST = 16777216, LONGEST = 8192, TOLD = 100 };
+enum { FIELDS = 10, FIELDS_WITH_UNDO = 14, FIELDS_MOST = 15, TOLD = 200 };
+enum { MARK = 1000, JOURNAL = 4096, LEAST = 1024, LARGEST = 16777216, LONGEST = 8192 };
 
 static uint8_t block[IBZ_BLOCK_LENGTH], goal[IBZ_BLOCK_LENGTH], start[IBZ_BLOCK_LENGTH], journal[JOURNAL], record[JOURNAL];
 static uint8_t *memory, *wanted; /* all 0 between cases */
@@ -23,6 +24,13 @@ static int number(const char **p, int base, uint32_t *n) {
 
 /* Whether a field is a number. */
 static int whole(const char *p, uint32_t *n) { return number(&p, 16, n) && *p == 0; }
+
+/* Whether a field is `clocks=N`, N in base 10. */
+static int clocks_in(const char *p, uint32_t *n) {
+  if (strncmp(p, "clocks=", 7) != 0) return 0;
+  p += 7;
+  return number(&p, 10, n) && *p == 0;
+}
 
 /* Puts the bytes that are spelled, and tells how many; `clear` puts 0 for each. */
 static size_t put_bytes(const char *p, uint8_t *to, size_t most, int clear) {
@@ -69,8 +77,8 @@ static int change_slots(const char *p, uint8_t *b) {
   }
 }
 
-/* The step, against what fields 8 to 10 say. */
-static const char *step_differs(char **f, uint8_t *m, const uint8_t *w, size_t length, size_t next) {
+/* The step, against what fields 8 to 10 say, and against its clocks if they are said. */
+static const char *step_differs(char **f, const uint32_t *clocks, uint8_t *m, const uint8_t *w, size_t length, size_t next) {
   uint32_t level, vector;
   if (!whole(f[3], &level) || !whole(f[4], &vector) || vector > 255) return "no case";
   const struct ibz_step_answer a = ibz_step(block, sizeof block, m, length, level, (uint8_t)vector, journal, JOURNAL, MARK);
@@ -79,6 +87,7 @@ static const char *step_differs(char **f, uint8_t *m, const uint8_t *w, size_t l
   if (memcmp(m, w, length) != 0) return "memory after the step";
   if (a.mark != next) return "mark after the step";
   if (memcmp(journal, record, JOURNAL) != 0) return "journal after the step";
+  if (clocks != NULL && a.clocks != *clocks) return "clocks of the step";
   return NULL;
 }
 
@@ -97,32 +106,35 @@ static const char *undo_differs(char **f, unsigned fields, uint8_t *m, uint8_t *
   return NULL;
 }
 
-static const char *compared(char **f, unsigned fields, uint8_t *m, uint8_t *w, size_t length) {
+static const char *compared(char **f, unsigned fields, const uint32_t *clocks, uint8_t *m, uint8_t *w, size_t length) {
   if (!put_slots(f[5], block) || !put_runs(f[6], m, length, 0)) return "no case";
   memcpy(goal, block, sizeof goal), memcpy(start, block, sizeof start);
   put_runs(f[6], w, length, 0);
   memset(journal, 0xA5, JOURNAL), memset(record, 0xA5, JOURNAL);
   const size_t n = put_bytes(f[9], record + MARK, JOURNAL - MARK, 0);
   if (n == 0 || f[9][2 * n] != 0 || !change_slots(f[7], goal) || !put_runs(f[8], w, length, 0)) return "no case";
-  const char *found = step_differs(f, m, w, length, MARK + n);
+  const char *found = step_differs(f, clocks, m, w, length, MARK + n);
   return found != NULL ? found : undo_differs(f, fields, m, w, length, MARK + n);
 }
 
 /* What differs first, or NULL. The line is cut into its fields, so that its name is left. */
 static const char *tried(char *line) {
-  char *f[FIELDS_WITH_UNDO];
+  char *f[FIELDS_MOST];
   unsigned fields = 0;
-  uint32_t length;
+  uint32_t length, clocks;
   const size_t bytes = strcspn(line, "\n");
-  for (line[bytes] = 0; line != NULL && fields < FIELDS_WITH_UNDO; fields++) {
+  for (line[bytes] = 0; line != NULL && fields < FIELDS_MOST; fields++) {
     f[fields] = line;
     line = strchr(line, ' ');
     if (line != NULL) *line++ = 0;
   }
+  const int timed = fields == FIELDS + 1 || fields == FIELDS_WITH_UNDO + 1; /* the last field says the clocks */
+  if (timed) fields--;
   if (bytes > LONGEST || line != NULL || (fields != FIELDS && fields != FIELDS_WITH_UNDO)) return "no case";
+  if (timed && !clocks_in(f[fields], &clocks)) return "no case";
   if (!whole(f[2], &length) || length < LEAST || length > LARGEST || length % 2 != 0) return "no case";
   uint8_t *m = memory + (LARGEST - length), *w = wanted + (LARGEST - length); /* their ends are at the guards */
-  const char *found = compared(f, fields, m, w, length);
+  const char *found = compared(f, fields, timed ? &clocks : NULL, m, w, length);
   put_runs(f[6], m, length, 1), put_runs(f[8], m, length, 1), put_runs(f[6], w, length, 1), put_runs(f[8], w, length, 1);
   if (found != NULL || fields == FIELDS_WITH_UNDO) memset(memory, 0, LARGEST), memset(wanted, 0, LARGEST);
   return found;

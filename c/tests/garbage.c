@@ -3,7 +3,8 @@
  *   a number that the call can not give is not given; it is 9 exactly if the block is not 80 bytes long;
  *   a refused call alters nothing, but a refused reset, which sets the fixed state;
  *   a step or a run alters the journal between the marks only, and leaves the mark within it; an undo and a reset do not alter it;
- *   a step that was done, and every step of a run that was done, is taken back by an undo, byte for byte.
+ *   a step that was done, and every step of a run that was done, is taken back by an undo, byte for byte;
+ *   done again, by steps alone, they lead to the same, and take as many clocks: the step's own, or the run's.
  * Arguments: how many calls, and a seed. */
 #include "tests.h"
 
@@ -71,18 +72,26 @@ static int same_state(void) { return memcmp(block, old_block, block_length) == 0
 
 static int same_journal(size_t from, size_t to) { return memcmp(journal + from, old_journal + from, to - from) == 0; }
 
-/* `steps` undos from the mark lead back to what was kept, and to the mark of then; then all is put as it was found. */
-static void there_and_back(uint32_t steps, size_t next) {
+/* `steps` undos from the mark lead back to what was kept, and to the mark of then; as many steps with the same request lead to what was
+ * found, and to `next`. The clocks of these steps together. */
+static uint64_t there_and_back(uint32_t steps, size_t next, uint32_t level, uint8_t vector) {
   static uint8_t now_block[IBZ_BLOCK_LENGTH], now_memory[LARGEST];
   memcpy(now_block, block, sizeof now_block), memcpy(now_memory, memory, memory_length);
   size_t at = next;
+  uint64_t clocks = 0;
   for (uint32_t i = 0; i < steps; i++) {
     const struct ibz_undo_answer a = ibz_undo(block, block_length, memory, memory_length, journal, journal_length, at);
     EXPECT(a.number == 0 && a.mark < at);
     at = a.mark;
   }
   EXPECT(at == mark && same_state());
-  memcpy(block, now_block, sizeof now_block), memcpy(memory, now_memory, memory_length);
+  for (uint32_t i = 0; i < steps; i++) {
+    const struct ibz_step_answer a = ibz_step(block, block_length, memory, memory_length, level, vector, journal, journal_length, at);
+    EXPECT(a.number == 0 && a.mark > at && a.clocks <= IBZ_CLOCKS_MOST);
+    at = a.mark, clocks += a.clocks;
+  }
+  EXPECT(at == next && memcmp(block, now_block, sizeof now_block) == 0 && memcmp(memory, now_memory, memory_length) == 0);
+  return clocks;
 }
 
 static int can_give(const char *numbers, uint32_t number) { return number <= 9 && strchr(numbers, '0' + (int)number) != NULL; }
@@ -104,9 +113,9 @@ static uint32_t one_step(void) {
   if (a.number == 0) {
     EXPECT(a.mark > mark && a.mark - mark <= IBZ_RECORD_MOST && a.mark <= journal_length);
     EXPECT(same_journal(0, mark) && same_journal(a.mark, journal_length));
-    there_and_back(1, a.mark);
+    EXPECT(a.clocks == there_and_back(1, a.mark, level, vector));
   } else {
-    EXPECT(a.mark == mark && a.event == 0 && same_state() && same_journal(0, journal_length));
+    EXPECT(a.mark == mark && a.event == 0 && a.clocks == 0 && same_state() && same_journal(0, journal_length));
   }
   mark = a.mark;
   return a.number;
@@ -119,9 +128,9 @@ static uint32_t one_run(void) {
   if (a.number == 0) {
     EXPECT(a.reason >= 1 && a.reason <= 5 && a.steps <= budget && a.mark >= mark && a.mark <= journal_length);
     EXPECT(same_journal(0, mark) && same_journal(a.mark, journal_length));
-    there_and_back(a.steps, a.mark);
+    EXPECT(a.clocks == there_and_back(a.steps, a.mark, 0, 0));
   } else {
-    EXPECT(a.mark == mark && a.reason == 0 && a.steps == 0 && same_state() && same_journal(0, journal_length));
+    EXPECT(a.mark == mark && a.reason == 0 && a.steps == 0 && a.clocks == 0 && same_state() && same_journal(0, journal_length));
   }
   mark = a.mark;
   return a.number;

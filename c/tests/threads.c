@@ -8,6 +8,7 @@ enum { THREADS = 4, TURNS = 40, MEMORY = 65536, JOURNAL = 65536 };
 struct machine {
   unsigned turn;
   size_t mark;
+  uint64_t clocks; /* of all steps that were done */
   uint8_t block[IBZ_BLOCK_LENGTH], memory[MEMORY], journal[JOURNAL];
 };
 
@@ -21,8 +22,10 @@ static void *work(void *p) {
   for (unsigned i = 0; i < TURNS; i++) {
     const struct ibz_run_answer a =
         ibz_run(x->block, sizeof x->block, x->memory, MEMORY, 300 + 7 * x->turn, 0xFFFFFFFFu, x->journal, JOURNAL, x->mark);
-    x->mark = a.mark;
-    x->mark = ibz_step(x->block, sizeof x->block, x->memory, MEMORY, (i + x->turn) % 8, (uint8_t)i, x->journal, JOURNAL, x->mark).mark;
+    const struct ibz_step_answer s =
+        ibz_step(x->block, sizeof x->block, x->memory, MEMORY, (i + x->turn) % 8, (uint8_t)i, x->journal, JOURNAL, a.mark);
+    x->mark = s.mark;
+    x->clocks += a.clocks + s.clocks;
     for (unsigned k = 0; k < 250 + x->turn; k++)
       x->mark = ibz_undo(x->block, sizeof x->block, x->memory, MEMORY, x->journal, JOURNAL, x->mark).mark;
   }
@@ -37,6 +40,6 @@ int main(void) {
   for (unsigned i = 0; i < THREADS; i++) work(&alone[i]);
   for (unsigned i = 0; i < THREADS; i++) EXPECT(pthread_join(threads[i], NULL) == 0);
   for (unsigned i = 0; i < THREADS; i++) EXPECT(memcmp(&at_once[i], &alone[i], sizeof alone[i]) == 0 && alone[i].mark > 0);
-  EXPECT(memcmp(alone[0].block, alone[1].block, sizeof alone[0].block) != 0); /* they did not all do the same */
+  EXPECT(memcmp(alone[0].block, alone[1].block, sizeof alone[0].block) != 0 && alone[0].clocks != alone[1].clocks); /* not all the same */
   return verdict("threads");
 }

@@ -2,7 +2,7 @@
  * fail. kit/check tries each. Read by tests.h; after it the tests' calls are the wrong ones. */
 #ifndef WRONG_H
 #define WRONG_H
-#define WRONG_CALLS 16
+#define WRONG_CALLS 20
 
 /* What was lent, before an undo. */
 static uint8_t wrong_block[IBZ_BLOCK_LENGTH], wrong_memory[65536];
@@ -24,6 +24,8 @@ static inline struct ibz_step_answer wrong_step(uint8_t *block, size_t block_len
   if (WRONG == 7 && a.number == IBZ_DONE) a.mark++;
   if (WRONG == 8) a.event = IBZ_EVENT_NONE;
   if (WRONG == 9 && a.number == IBZ_DONE) memory[memory_length - 1] ^= 1; /* a byte of memory that no record has */
+  if (WRONG == 17 && a.number == IBZ_DONE) a.clocks++;
+  if (WRONG == 18 && a.number != IBZ_DONE) a.clocks = 4; /* a refusal takes time */
   return a;
 }
 
@@ -32,6 +34,12 @@ static inline struct ibz_run_answer wrong_run(uint8_t *block, size_t block_lengt
   struct ibz_run_answer a = ibz_run(block, block_length, memory, memory_length, budget, stop, journal, journal_length, mark);
   if (WRONG == 10 && a.number == IBZ_DONE) a.steps = budget; /* the count is invented */
   if (WRONG == 11 && a.number == IBZ_DONE) a.reason = IBZ_REASON_BUDGET;
+  if (WRONG == 17 && a.number == IBZ_DONE) a.clocks += a.steps; /* as its steps */
+  if (WRONG == 19 && a.steps > 0) { /* its last step is not added */
+    const size_t before = ibz_undo(block, block_length, memory, memory_length, journal, journal_length, a.mark).mark;
+    a.clocks -= ibz_step(block, block_length, memory, memory_length, 0, 0, journal, journal_length, before).clocks;
+  }
+  if (WRONG == 20 && a.number != IBZ_DONE) a.clocks = 4;
   return a;
 }
 

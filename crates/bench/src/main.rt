@@ -3,7 +3,7 @@
 // Uses: codes, machine, io, libc, os.  Source: [ours].
 //
 // Arguments, in any number: a count of steps tells what that many steps from a reset give; `speed COUNT` only runs
-// them, and `undo COUNT` runs each, undoes it and runs it again: both tell the slots alone. The image is standard
+// them, and `undo COUNT` runs each, undoes it and runs it again: both tell clocks and slots alone. The image is standard
 // input, or the file of an `image FILE` before the counts; `memory BYTES` and `journal BYTES` before them say how much
 // is lent: else 65,536 bytes, and 1,048,576. A memory above 65,536 bytes needs a stack of 64 MiB, as `./run` gives it.
 // An argument that is none of these, or a length that cannot be lent, is told on standard error and passed over.
@@ -65,7 +65,7 @@ fn write_progress(p: Progress, memory: &[u8]) {
     write_number(b" journal ", p.bytes);
     write_hash(b" jhash ", p.hash);
     write_hash(b" memhash ", running::hash_of(memory));
-    io::write_all(STDOUT_FILENO, b" state ");
+    io::write_all(STDOUT_FILENO, b" ");
 }
 
 // Runs what is asked, on the memory and the journal that are lent.
@@ -77,6 +77,8 @@ fn run_asked(a: Asked, memory: &mut [u8], journal: &mut [u8]) {
     if a.way == HASHED {
         write_progress(q, memory);
     }
+    write_number(b"clocks ", q.clocks);
+    io::write_all(STDOUT_FILENO, b" state ");
     write_slots(&slots);
 }
 

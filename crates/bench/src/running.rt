@@ -15,12 +15,14 @@ pub const ALONE: u32 = 1;
 
 pub const UNDONE: u32 = 2;
 
-// How far a run is: steps to do, steps done, journal bytes written and their hash.
+// How far a run is: steps to do, steps done, journal bytes written and their hash, clocks. Where steps are undone and done again
+// each counts its clocks both times.
 pub struct Progress {
     pub left: u64,
     pub steps: u64,
     pub bytes: u64,
     pub hash: u32,
+    pub clocks: u64,
 }
 
 pub fn start(count: u64) -> Progress {
@@ -29,6 +31,7 @@ pub fn start(count: u64) -> Progress {
         steps: 0,
         bytes: 0,
         hash: HASH_START,
+        clocks: 0,
     }
 }
 
@@ -68,10 +71,11 @@ fn budget(left: u64) -> u32 {
     1000000
 }
 
-// What a run did: its steps, and the journal's mark after it.
+// What a run did: its steps, the journal's mark after it, and its clocks.
 struct Part {
     steps: u64,
     mark: usize,
+    clocks: u64,
 }
 
 // A run until the steps are done or the journal is full.
@@ -80,6 +84,7 @@ fn run_part(left: u64, slots: &mut [u32; SLOTS], memory: &mut [u8], journal: &mu
     Part {
         steps: answer.steps as u64,
         mark: answer.mark,
+        clocks: answer.clocks as u64,
     }
 }
 
@@ -88,6 +93,7 @@ fn after(p: Progress, part: Part) -> Progress {
     let mut next = p;
     next.steps = std::num::wrapping_add_u64(p.steps, part.steps);
     next.bytes = std::num::wrapping_add_u64(p.bytes, part.mark as u64);
+    next.clocks = std::num::wrapping_add_u64(p.clocks, part.clocks);
     next.left = 0;
     if part.steps == 0 {
         return next;
@@ -117,19 +123,20 @@ fn undo_all(slots: &mut [u32; SLOTS], memory: &mut [u8], journal: &[u8], mark: u
     }
 }
 
-// Where steps are to be undone: a run, and the undo of it.
+// Where steps are to be undone: a run, and the undo of it. It answers the run's clocks.
 fn run_undone(
     p: Progress,
     slots: &mut [u32; SLOTS],
     memory: &mut [u8],
     journal: &mut [u8],
     way: u32,
-) {
+) -> u64 {
     if way != UNDONE {
-        return;
+        return 0;
     }
     let part = run_part(p.left, slots, memory, journal);
     undo_all(slots, memory, journal, part.mark);
+    part.clocks
 }
 
 fn run_once(
@@ -139,9 +146,10 @@ fn run_once(
     journal: &mut [u8],
     way: u32,
 ) -> Progress {
-    run_undone(p, slots, memory, journal, way);
+    let undone = run_undone(p, slots, memory, journal, way);
     let part = run_part(p.left, slots, memory, journal);
     let mut next = after(p, part);
+    next.clocks = std::num::wrapping_add_u64(next.clocks, undone);
     if way == HASHED {
         next.hash = hashed_to(p.hash, journal, part.mark);
     }

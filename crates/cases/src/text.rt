@@ -5,7 +5,7 @@ ghost use Prim.Native.Nat.{_≤_};
 ghost use lib.ListN.{length};
 use codes::SLOTS;
 
-// What `number` answers where there is none.
+// What `number` and `decimal` answer where there is none.
 pub const NO_NUMBER: u64 = 4294967296;
 
 // What `byte_at` answers where there is none.
@@ -111,6 +111,33 @@ pub fn number(text: &[u8]) -> u64 {
         n = with_digit(n, text[i]);
     }
     spelled(n)
+}
+
+// One digit more in base 10. NO_NUMBER stands for what is no number, and stays.
+fn with_decimal(n: u64, c: u8) -> u64 {
+    let d = digit(c);
+    if 9 < d {
+        return NO_NUMBER;
+    }
+    if n < NO_NUMBER / 10 {
+        return n * 10 + d as u64;
+    }
+    NO_NUMBER
+}
+
+// The number that text spells in base 10 with one to eight digits.
+pub fn decimal(text: &[u8]) -> u64 {
+    if text.len() == 0 {
+        return NO_NUMBER;
+    }
+    if 8 < text.len() {
+        return NO_NUMBER;
+    }
+    let mut n: u64 = 0;
+    for i in 0..text.len() {
+        n = with_decimal(n, text[i]);
+    }
+    n
 }
 
 // The number of a slot that text spells in base 10, else how many there are: the numbers have one digit, or two of which the first is 1.

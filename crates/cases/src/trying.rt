@@ -8,6 +8,7 @@ use crate::setting::put_bytes;
 use crate::setting::put_runs;
 use crate::setting::put_slots;
 use crate::text::NO_NUMBER;
+use crate::text::decimal;
 use crate::text::marks;
 use crate::text::number;
 use crate::text::piece;
@@ -31,25 +32,66 @@ pub const STEP_MARK: u32 = 6;
 
 pub const STEP_JOURNAL: u32 = 7;
 
-pub const UNDO_NUMBER: u32 = 8;
+pub const STEP_CLOCKS: u32 = 8;
 
-pub const UNDO_SLOTS: u32 = 9;
+pub const UNDO_NUMBER: u32 = 9;
 
-pub const UNDO_MEMORY: u32 = 10;
+pub const UNDO_SLOTS: u32 = 10;
 
-pub const UNDO_MARK: u32 = 11;
+pub const UNDO_MEMORY: u32 = 11;
+
+pub const UNDO_MARK: u32 = 12;
 
 // the mark that a step is given: bytes before it are seen to stay
 const MARK: usize = 1000;
 
-// spaces of a line that says nothing of its undo, and of one that does
+// spaces of a line that says nothing of its undo, and of one that does; and of both where the step's clocks follow
 const SPACES: usize = 9;
 
+const SPACES_WITH_CLOCKS: usize = 10;
+
 const SPACES_WITH_UNDO: usize = 13;
+
+const SPACES_WITH_BOTH: usize = 14;
 
 // Field k of a line, counted from 0.
 fn field(text: &[u8], k: usize) -> &[u8] {
     piece(text, b' ', k)
+}
+
+// Whether a line says what its undo is to leave.
+fn says_undo(text: &[u8]) -> bool {
+    SPACES_WITH_UNDO <= marks(text, b' ')
+}
+
+// Whether a line says the step's clocks, in a field after all others.
+fn says_clocks(text: &[u8]) -> bool {
+    let spaces = marks(text, b' ');
+    (spaces == SPACES_WITH_CLOCKS) | (spaces == SPACES_WITH_BOTH)
+}
+
+// The last field of a line.
+fn last_field(text: &[u8]) -> &[u8] {
+    field(text, marks(text, b' '))
+}
+
+// The clocks that a field `clocks=N` says, N in base 10.
+fn clocks_in(field: &[u8]) -> u64 {
+    if marks(field, b'=') != 1 {
+        return NO_NUMBER;
+    }
+    if !same(piece(field, b'=', 0), b"clocks") {
+        return NO_NUMBER;
+    }
+    decimal(piece(field, b'=', 1))
+}
+
+// Whether these are the clocks that the line says, if it says any.
+fn right_clocks(text: &[u8], clocks: u32) -> bool {
+    if !says_clocks(text) {
+        return true;
+    }
+    clocks_in(last_field(text)) == clocks as u64
 }
 
 // The mark after the step.
@@ -74,7 +116,7 @@ fn put_after(text: &[u8], slots: &mut [u32; SLOTS], memory: &mut [u8], journal: 
 
 // Where the line says so, what the undo is to leave other than it was before the step.
 fn put_undone(text: &[u8], slots: &mut [u32; SLOTS], memory: &mut [u8]) -> bool {
-    if marks(text, b' ') == SPACES {
+    if !says_undo(text) {
         return true;
     }
     let slots_good = change_slots(field(text, 11), slots);
@@ -82,7 +124,14 @@ fn put_undone(text: &[u8], slots: &mut [u32; SLOTS], memory: &mut [u8]) -> bool 
     slots_good & runs_good
 }
 
-// An answer's number and mark.
+// A step's number, mark and clocks.
+struct Taken {
+    number: u32,
+    mark: usize,
+    clocks: u32,
+}
+
+// An undo's number and mark.
 struct Answer {
     number: u64,
     mark: usize,
@@ -90,7 +139,7 @@ struct Answer {
 
 // The undo's answer that is wanted.
 fn undo_wanted(text: &[u8]) -> Answer {
-    if marks(text, b' ') == SPACES {
+    if !says_undo(text) {
         return Answer {
             number: 0,
             mark: MARK,
@@ -108,11 +157,12 @@ fn step(
     level: u32,
     vector: u8,
     journal: &mut [u8],
-) -> Answer {
+) -> Taken {
     let answer = machine::step(slots, memory, level, vector, journal, MARK);
-    Answer {
-        number: answer.number as u64,
+    Taken {
+        number: answer.number,
         mark: answer.mark,
+        clocks: answer.clocks,
     }
 }
 
@@ -161,6 +211,9 @@ fn compare_step(
     }
     if !same(journal, record) {
         return STEP_JOURNAL;
+    }
+    if !right_clocks(text, answer.clocks) {
+        return STEP_CLOCKS;
     }
     AGREES
 }
@@ -256,13 +309,24 @@ fn on_zeros(text: &[u8], memory: &mut [u8], wanted: &mut [u8]) -> u32 {
     with_filled(text, memory, wanted, &mut journal, &mut record)
 }
 
-// Whether a line has ten fields, or fourteen of which those of the undo's answer are numbers.
-fn has_fields(text: &[u8]) -> bool {
-    let spaces = marks(text, b' ');
-    if spaces == SPACES {
+// Whether a line's last field says clocks, where it is to say them.
+fn has_clocks(text: &[u8]) -> bool {
+    if !says_clocks(text) {
         return true;
     }
-    if spaces != SPACES_WITH_UNDO {
+    clocks_in(last_field(text)) < NO_NUMBER
+}
+
+// Whether a line has ten fields, or fourteen of which those of the undo's answer are numbers; and after them none, or clocks.
+fn has_fields(text: &[u8]) -> bool {
+    if !has_clocks(text) {
+        return false;
+    }
+    let spaces = marks(text, b' ');
+    if (spaces == SPACES) | (spaces == SPACES_WITH_CLOCKS) {
+        return true;
+    }
+    if (spaces != SPACES_WITH_UNDO) & (spaces != SPACES_WITH_BOTH) {
         return false;
     }
     if NO_NUMBER <= number(field(text, 10)) {

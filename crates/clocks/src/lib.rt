@@ -13,6 +13,12 @@ use codes::SLOTS;
 
 mod tables;
 
+// D-14: an interrupt.
+pub const INTERRUPT_LINE: u32 = 44;
+
+// A step of a stopped machine that takes no interrupt.
+pub const STOPPED_CLOCKS: u32 = 4;
+
 // The row of a mode.
 fn place(mode: u32, n: u32) -> u32
     ensures { λ i. ⌜ i ≡ place mode n ⌝ }

@@ -1,1 +1,2 @@
 pub mod PaperLaws
+pub mod ClockLaws

@@ -1,16 +1,32 @@
-// lib.rt - the instruction of an operation word: its kind, whether it may be done in this state, and the family's function.
+// lib.rt - the instruction of an operation word: its kind, whether it may be done in this state, the family's function, and its clocks.
 // Means: specs/Dispatch.antt.  Laws: proofs/DispatchLaws.antt.
-// Uses: codes, bits, bus, plan, decode, movement, movem, integer, bitwise, control, system.  Source: [01 step 2], [01 step 4], [003 4.4.7].
+// Uses: codes, bits, bus, operand, plan, clocks, decode, movement, movem, integer, bitwise, control, system.  Source: [01 step 2], [01 step 4], [003 4.4.7], [K2].
 ghost use mathlib.Core.Path.{_≡_};
 ghost use Prim.Native.Nat.{ℕ, _+_, _*_, _%_, _/_, _<_, _≤_};
+ghost use lib.ListN.{length};
 ghost use Rattle.bus.specs.Bus.{view-of};
 ghost use Rattle.plan.specs.Plans.{Done};
 ghost use Rattle.execute.specs.Dispatch.{refused-plan, refused-kind, movement-kind, integer-kind, logical-kind, control-kind, system-kind};
-ghost use Rattle.execute.specs.Dispatch.{dispatch, as-user, execute};
+ghost use Rattle.execute.specs.Dispatch.{dispatch, as-user, execute, user-clocks, own-clocks, after-branch};
+ghost use Rattle.decode.specs.Kinds.{Illegal, Move, AddToRegister, AndToRegister, Bcc, AndIToCcr};
+ghost use Rattle.clocks.specs.Lines.{clocks};
 use bus::Flow;
 use codes::SLOTS;
 use decode::kinds;
 use plan::Plan;
+
+// What is to be done for an instruction, and how many clocks it takes if it takes no exception.
+pub struct Timed {
+    pub plan: Plan,
+    pub clocks: u32,
+}
+
+// The clocks come first: they are told from the registers before the instruction.
+fn taking(clocks: u32, plan: Plan) -> Timed
+    ensures { λ t. ⌜ t ≡ record { plan = plan; clocks = clocks } ⌝ }
+{
+    Timed { plan, clocks }
+}
 
 // A refused instruction: the saved PC is its own address.
 fn refused(vec: u32, f: Flow) -> Plan
@@ -20,145 +36,322 @@ fn refused(vec: u32, f: Flow) -> Plan
 }
 
 // Illegal, and words that begin 1010 and 1111.
-fn refused_kind(j: u32, r: &[u32; SLOTS], mem: &[u8], op: u32, f: Flow) -> Plan
-    ensures { λ p. ⌜ record { r = now (r .entry); p = p } ≡ refused-kind j (now (r .entry)) (view-of (now (mem .entry))) op f ⌝ }
+fn refused_kind(j: u32, r: &[u32; SLOTS], mem: &[u8], op: u32, f: Flow) -> Timed
+    requires { ⌜ j < 3 ⌝ }
+    ensures { λ t. ⌜ record { r = now (r .entry); p = t .plan } ≡ refused-kind j (now (r .entry)) (view-of (now (mem .entry))) op f ⌝ }
+    ensures { λ t. ⌜ t .clocks ≡ clocks (Illegal + j) (now (r .entry)) (view-of (now (mem .entry))) op f ⌝ }
 {
     match j {
-        0 => refused(codes::ILLEGAL_INSTRUCTION, f),
-        1 => refused(codes::LINE1010, f),
-        _ => refused(codes::LINE1111, f),
+        0 => taking(0, refused(codes::ILLEGAL_INSTRUCTION, f)),
+        1 => taking(0, refused(codes::LINE1010, f)),
+        _ => taking(0, refused(codes::LINE1111, f)),
     }
 }
 
 // Data movement, from MOVE on.
-fn movement_kind(j: u32, r: &mut [u32; SLOTS], mem: &[u8], op: u32, f: Flow) -> Plan
-    ensures { λ p. ⌜ record { r = now (r .exit); p = p } ≡ movement-kind j (now (r .entry)) (view-of (now (mem .entry))) op f ⌝ }
+fn movement_kind(j: u32, r: &mut [u32; SLOTS], mem: &[u8], op: u32, f: Flow) -> Timed
+    requires { ⌜ j < 15 ⌝ }
+    ensures { λ t. ⌜ record { r = now (r .exit); p = t .plan } ≡ movement-kind j (now (r .entry)) (view-of (now (mem .entry))) op f ⌝ }
+    ensures { λ t. ⌜ t .clocks ≡ clocks (Move + j) (now (r .entry)) (view-of (now (mem .entry))) op f ⌝ }
 {
     match j {
-        0 => movement::move_data(r, mem, op, f),
-        1 => movement::move_address(r, mem, op, f),
-        2 => movement::move_quick(r, mem, op, f),
-        3 => movem::movem_to_memory(r, mem, op, f),
-        4 => movem::movem_to_registers(r, mem, op, f),
-        5 => movement::movep_to_register(r, mem, op, f),
-        6 => movement::movep_to_memory(r, mem, op, f),
-        7 => movement::load_address(r, mem, op, f),
-        8 => movement::push_address(r, mem, op, f),
-        9 => movement::exchange_data(r, mem, op, f),
-        10 => movement::exchange_address(r, mem, op, f),
-        11 => movement::exchange_both(r, mem, op, f),
-        12 => movement::swap(r, mem, op, f),
-        13 => movement::link(r, mem, op, f),
-        _ => movement::unlink(r, mem, op, f),
+        0 => taking(clocks::moved(op), movement::move_data(r, mem, op, f)),
+        1 => taking(clocks::moved(op), movement::move_address(r, mem, op, f)),
+        2 => taking(4, movement::move_quick(r, mem, op, f)),
+        3 => taking(
+            clocks::stored(4, 8, mem, op, f),
+            movem::movem_to_memory(r, mem, op, f),
+        ),
+        4 => taking(
+            clocks::loaded(4, 8, mem, op, f),
+            movem::movem_to_registers(r, mem, op, f),
+        ),
+        5 => taking(
+            clocks::peripheral(16, 24, op),
+            movement::movep_to_register(r, mem, op, f),
+        ),
+        6 => taking(
+            clocks::peripheral(16, 24, op),
+            movement::movep_to_memory(r, mem, op, f),
+        ),
+        7 => taking(
+            clocks::located(0, op),
+            movement::load_address(r, mem, op, f),
+        ),
+        8 => taking(
+            clocks::located(8, op),
+            movement::push_address(r, mem, op, f),
+        ),
+        9 => taking(6, movement::exchange_data(r, mem, op, f)),
+        10 => taking(6, movement::exchange_address(r, mem, op, f)),
+        11 => taking(6, movement::exchange_both(r, mem, op, f)),
+        12 => taking(4, movement::swap(r, mem, op, f)),
+        13 => taking(16, movement::link(r, mem, op, f)),
+        _ => taking(12, movement::unlink(r, mem, op, f)),
     }
 }
 
 // Integer arithmetic, from ADD_TO_REGISTER on.
-fn integer_kind(j: u32, r: &mut [u32; SLOTS], mem: &[u8], op: u32, f: Flow) -> Plan
-    ensures { λ p. ⌜ record { r = now (r .exit); p = p } ≡ integer-kind j (now (r .entry)) (view-of (now (mem .entry))) op f ⌝ }
+fn integer_kind(j: u32, r: &mut [u32; SLOTS], mem: &[u8], op: u32, f: Flow) -> Timed
+    requires { ⌜ j < 28 ⌝ }
+    ensures { λ t. ⌜ record { r = now (r .exit); p = t .plan } ≡ integer-kind j (now (r .entry)) (view-of (now (mem .entry))) op f ⌝ }
+    ensures { λ t. ⌜ t .clocks ≡ clocks (AddToRegister + j) (now (r .entry)) (view-of (now (mem .entry))) op f ⌝ }
 {
     match j {
-        0 => integer::to_register(codes::ADD, r, mem, op, f),
-        1 => integer::to_memory(codes::ADD, r, mem, op, f),
-        2 => integer::to_address(codes::ADD, r, mem, op, f),
-        3 => integer::immediate_to(codes::ADD, r, mem, op, f),
-        4 => integer::quick_to(codes::ADD, r, mem, op, f),
-        5 => integer::quick_address(codes::ADD, r, op, f),
-        6 => integer::paired(codes::ADD_EXTENDED, r, mem, op, f),
-        7 => integer::to_register(codes::SUBTRACT, r, mem, op, f),
-        8 => integer::to_memory(codes::SUBTRACT, r, mem, op, f),
-        9 => integer::to_address(codes::SUBTRACT, r, mem, op, f),
-        10 => integer::immediate_to(codes::SUBTRACT, r, mem, op, f),
-        11 => integer::quick_to(codes::SUBTRACT, r, mem, op, f),
-        12 => integer::quick_address(codes::SUBTRACT, r, op, f),
-        13 => integer::paired(codes::SUBTRACT_EXTENDED, r, mem, op, f),
-        14 => integer::unary(codes::NEGATE, r, mem, op, f),
-        15 => integer::unary(codes::NEGATE_EXTENDED, r, mem, op, f),
-        16 => integer::unary(codes::CLEAR, r, mem, op, f),
-        17 => integer::to_register(codes::COMPARE, r, mem, op, f),
-        18 => integer::compare_address(r, mem, op, f),
-        19 => integer::compare_immediate(r, mem, op, f),
-        20 => integer::compare_memory(r, mem, op, f),
-        21 => integer::multiply(codes::SIGNED, r, mem, op, f),
-        22 => integer::multiply(codes::UNSIGNED, r, mem, op, f),
-        23 => integer::divide(codes::SIGNED, r, mem, op, f),
-        24 => integer::divide(codes::UNSIGNED, r, mem, op, f),
-        25 => integer::extend(r, mem, op, f),
-        26 => integer::unary(codes::TEST_AND_SET, r, mem, op, f),
-        _ => integer::test(r, mem, op, f),
+        0 => taking(
+            clocks::sized(4, 8, 4, 6, op),
+            integer::to_register(codes::ADD, r, mem, op, f),
+        ),
+        1 => taking(
+            clocks::sized(8, 12, 8, 12, op),
+            integer::to_memory(codes::ADD, r, mem, op, f),
+        ),
+        2 => taking(
+            clocks::addressed(8, 8, 8, 6, op),
+            integer::to_address(codes::ADD, r, mem, op, f),
+        ),
+        3 => taking(
+            clocks::sized(8, 16, 12, 20, op),
+            integer::immediate_to(codes::ADD, r, mem, op, f),
+        ),
+        4 => taking(
+            clocks::sized(4, 8, 8, 12, op),
+            integer::quick_to(codes::ADD, r, mem, op, f),
+        ),
+        5 => taking(8, integer::quick_address(codes::ADD, r, op, f)),
+        6 => taking(
+            clocks::paired(4, 8, 18, 30, op),
+            integer::paired(codes::ADD_EXTENDED, r, mem, op, f),
+        ),
+        7 => taking(
+            clocks::sized(4, 8, 4, 6, op),
+            integer::to_register(codes::SUBTRACT, r, mem, op, f),
+        ),
+        8 => taking(
+            clocks::sized(8, 12, 8, 12, op),
+            integer::to_memory(codes::SUBTRACT, r, mem, op, f),
+        ),
+        9 => taking(
+            clocks::addressed(8, 8, 8, 6, op),
+            integer::to_address(codes::SUBTRACT, r, mem, op, f),
+        ),
+        10 => taking(
+            clocks::sized(8, 16, 12, 20, op),
+            integer::immediate_to(codes::SUBTRACT, r, mem, op, f),
+        ),
+        11 => taking(
+            clocks::sized(4, 8, 8, 12, op),
+            integer::quick_to(codes::SUBTRACT, r, mem, op, f),
+        ),
+        12 => taking(8, integer::quick_address(codes::SUBTRACT, r, op, f)),
+        13 => taking(
+            clocks::paired(4, 8, 18, 30, op),
+            integer::paired(codes::SUBTRACT_EXTENDED, r, mem, op, f),
+        ),
+        14 => taking(
+            clocks::sized(4, 6, 8, 12, op),
+            integer::unary(codes::NEGATE, r, mem, op, f),
+        ),
+        15 => taking(
+            clocks::sized(4, 6, 8, 12, op),
+            integer::unary(codes::NEGATE_EXTENDED, r, mem, op, f),
+        ),
+        16 => taking(
+            clocks::sized(4, 6, 8, 12, op),
+            integer::unary(codes::CLEAR, r, mem, op, f),
+        ),
+        17 => taking(
+            clocks::sized(4, 6, 4, 6, op),
+            integer::to_register(codes::COMPARE, r, mem, op, f),
+        ),
+        18 => taking(
+            clocks::addressed(6, 6, 6, 6, op),
+            integer::compare_address(r, mem, op, f),
+        ),
+        19 => taking(
+            clocks::sized(8, 14, 8, 12, op),
+            integer::compare_immediate(r, mem, op, f),
+        ),
+        20 => taking(
+            clocks::paired(12, 20, 12, 20, op),
+            integer::compare_memory(r, mem, op, f),
+        ),
+        21 => taking(
+            clocks::signed(38, r, mem, op, f),
+            integer::multiply(codes::SIGNED, r, mem, op, f),
+        ),
+        22 => taking(
+            clocks::unsigned(38, r, mem, op, f),
+            integer::multiply(codes::UNSIGNED, r, mem, op, f),
+        ),
+        23 => taking(
+            clocks::narrow(158, 158, op),
+            integer::divide(codes::SIGNED, r, mem, op, f),
+        ),
+        24 => taking(
+            clocks::narrow(140, 140, op),
+            integer::divide(codes::UNSIGNED, r, mem, op, f),
+        ),
+        25 => taking(4, integer::extend(r, mem, op, f)),
+        26 => taking(
+            clocks::narrow(4, 10, op),
+            integer::unary(codes::TEST_AND_SET, r, mem, op, f),
+        ),
+        _ => taking(clocks::sized(4, 4, 4, 4, op), integer::test(r, mem, op, f)),
     }
 }
 
 // Kinds 46 to 61: logical, shift and rotate, bit, decimal.
-fn logical_kind(j: u32, r: &mut [u32; SLOTS], mem: &[u8], op: u32, f: Flow) -> Plan
-    ensures { λ p. ⌜ record { r = now (r .exit); p = p } ≡ logical-kind j (now (r .entry)) (view-of (now (mem .entry))) op f ⌝ }
+fn logical_kind(j: u32, r: &mut [u32; SLOTS], mem: &[u8], op: u32, f: Flow) -> Timed
+    requires { ⌜ j < 16 ⌝ }
+    ensures { λ t. ⌜ record { r = now (r .exit); p = t .plan } ≡ logical-kind j (now (r .entry)) (view-of (now (mem .entry))) op f ⌝ }
+    ensures { λ t. ⌜ t .clocks ≡ clocks (AndToRegister + j) (now (r .entry)) (view-of (now (mem .entry))) op f ⌝ }
 {
     match j {
-        0 => integer::to_register(codes::AND, r, mem, op, f),
-        1 => integer::to_memory(codes::AND, r, mem, op, f),
-        2 => integer::immediate_to(codes::AND, r, mem, op, f),
-        3 => integer::to_register(codes::OR, r, mem, op, f),
-        4 => integer::to_memory(codes::OR, r, mem, op, f),
-        5 => integer::immediate_to(codes::OR, r, mem, op, f),
-        6 => integer::to_memory(codes::EXCLUSIVE_OR, r, mem, op, f),
-        7 => integer::immediate_to(codes::EXCLUSIVE_OR, r, mem, op, f),
-        8 => integer::unary(codes::COMPLEMENT, r, mem, op, f),
-        9 => bitwise::shift_register(r, mem, op, f),
-        10 => bitwise::shift_memory(r, mem, op, f),
-        11 => bitwise::bit_dynamic(r, mem, op, f),
-        12 => bitwise::bit_static(r, mem, op, f),
-        13 => integer::paired(codes::ADD_DECIMAL, r, mem, op, f),
-        14 => integer::paired(codes::SUBTRACT_DECIMAL, r, mem, op, f),
-        _ => integer::unary(codes::NEGATE_DECIMAL, r, mem, op, f),
+        0 => taking(
+            clocks::sized(4, 8, 4, 6, op),
+            integer::to_register(codes::AND, r, mem, op, f),
+        ),
+        1 => taking(
+            clocks::sized(8, 12, 8, 12, op),
+            integer::to_memory(codes::AND, r, mem, op, f),
+        ),
+        2 => taking(
+            clocks::sized(8, 16, 12, 20, op),
+            integer::immediate_to(codes::AND, r, mem, op, f),
+        ),
+        3 => taking(
+            clocks::sized(4, 8, 4, 6, op),
+            integer::to_register(codes::OR, r, mem, op, f),
+        ),
+        4 => taking(
+            clocks::sized(8, 12, 8, 12, op),
+            integer::to_memory(codes::OR, r, mem, op, f),
+        ),
+        5 => taking(
+            clocks::sized(8, 16, 12, 20, op),
+            integer::immediate_to(codes::OR, r, mem, op, f),
+        ),
+        6 => taking(
+            clocks::sized(4, 8, 8, 12, op),
+            integer::to_memory(codes::EXCLUSIVE_OR, r, mem, op, f),
+        ),
+        7 => taking(
+            clocks::sized(8, 16, 12, 20, op),
+            integer::immediate_to(codes::EXCLUSIVE_OR, r, mem, op, f),
+        ),
+        8 => taking(
+            clocks::sized(4, 6, 8, 12, op),
+            integer::unary(codes::COMPLEMENT, r, mem, op, f),
+        ),
+        9 => taking(
+            clocks::shifted(6, 8, r, op),
+            bitwise::shift_register(r, mem, op, f),
+        ),
+        10 => taking(
+            clocks::narrow(8, 8, op),
+            bitwise::shift_memory(r, mem, op, f),
+        ),
+        11 => taking(
+            clocks::bit_clocks(0, op),
+            bitwise::bit_dynamic(r, mem, op, f),
+        ),
+        12 => taking(
+            clocks::bit_clocks(4, op),
+            bitwise::bit_static(r, mem, op, f),
+        ),
+        13 => taking(
+            clocks::paired(6, 6, 18, 18, op),
+            integer::paired(codes::ADD_DECIMAL, r, mem, op, f),
+        ),
+        14 => taking(
+            clocks::paired(6, 6, 18, 18, op),
+            integer::paired(codes::SUBTRACT_DECIMAL, r, mem, op, f),
+        ),
+        _ => taking(
+            clocks::narrow(6, 8, op),
+            integer::unary(codes::NEGATE_DECIMAL, r, mem, op, f),
+        ),
     }
 }
 
 // Program control, from BCC on.
-fn control_kind(j: u32, r: &mut [u32; SLOTS], mem: &[u8], op: u32, f: Flow) -> Plan
-    ensures { λ p. ⌜ record { r = now (r .exit); p = p } ≡ control-kind j (now (r .entry)) (view-of (now (mem .entry))) op f ⌝ }
+fn control_kind(j: u32, r: &mut [u32; SLOTS], mem: &[u8], op: u32, f: Flow) -> Timed
+    requires { ⌜ j < 10 ⌝ }
+    ensures { λ t. ⌜ record { r = now (r .exit); p = t .plan } ≡ control-kind j (now (r .entry)) (view-of (now (mem .entry))) op f ⌝ }
+    ensures { λ t. ⌜ t .clocks ≡ clocks (Bcc + j) (now (r .entry)) (view-of (now (mem .entry))) op f ⌝ }
 {
     match j {
-        0 => control::branch(mem, op, f),
-        1 => control::branch(mem, op, f),
-        2 => control::branch_subroutine(r, mem, op, f),
-        3 => control::decrement_branch(r, mem, op, f),
-        4 => control::set_condition(r, mem, op, f),
-        5 => control::jump_to(r, mem, op, f),
-        6 => control::jump_subroutine(r, mem, op, f),
-        7 => control::no_operation(f),
-        8 => control::return_restore(r, mem, op, f),
-        _ => control::return_subroutine(r, mem, op, f),
+        0 => taking(
+            clocks::branched(10, 8, 12, op, f),
+            control::branch(mem, op, f),
+        ),
+        1 => taking(
+            clocks::branched(10, 8, 12, op, f),
+            control::branch(mem, op, f),
+        ),
+        2 => taking(18, control::branch_subroutine(r, mem, op, f)),
+        3 => taking(
+            clocks::counted(12, 10, 14, r, op, f),
+            control::decrement_branch(r, mem, op, f),
+        ),
+        4 => taking(
+            clocks::conditional(4, 6, 8, op, f),
+            control::set_condition(r, mem, op, f),
+        ),
+        5 => taking(clocks::jumped(0, op), control::jump_to(r, mem, op, f)),
+        6 => taking(
+            clocks::jumped(8, op),
+            control::jump_subroutine(r, mem, op, f),
+        ),
+        7 => taking(4, control::no_operation(f)),
+        8 => taking(20, control::return_restore(r, mem, op, f)),
+        _ => taking(16, control::return_subroutine(r, mem, op, f)),
     }
 }
 
 // System control, from AND_I_TO_CCR on.
-fn system_kind(j: u32, r: &mut [u32; SLOTS], mem: &[u8], op: u32, f: Flow) -> Plan
-    ensures { λ p. ⌜ record { r = now (r .exit); p = p } ≡ system-kind j (now (r .entry)) (view-of (now (mem .entry))) op f ⌝ }
+fn system_kind(j: u32, r: &mut [u32; SLOTS], mem: &[u8], op: u32, f: Flow) -> Timed
+    ensures { λ t. ⌜ record { r = now (r .exit); p = t .plan } ≡ system-kind j (now (r .entry)) (view-of (now (mem .entry))) op f ⌝ }
+    ensures { λ t. ⌜ t .clocks ≡ clocks (AndIToCcr + j) (now (r .entry)) (view-of (now (mem .entry))) op f ⌝ }
 {
     match j {
-        0 => system::immediate_to_ccr(codes::AND, mem, f),
-        1 => system::immediate_to_sr(codes::AND, mem, f),
-        2 => system::immediate_to_ccr(codes::EXCLUSIVE_OR, mem, f),
-        3 => system::immediate_to_sr(codes::EXCLUSIVE_OR, mem, f),
-        4 => system::immediate_to_ccr(codes::OR, mem, f),
-        5 => system::immediate_to_sr(codes::OR, mem, f),
-        6 => system::move_from_sr(r, mem, op, f),
-        7 => system::move_to_ccr(r, mem, op, f),
-        8 => system::move_to_sr(r, mem, op, f),
-        9 => system::move_to_usp(r, op, f),
-        10 => system::move_from_usp(r, op, f),
-        11 => system::reset_devices(f),
-        12 => system::return_exception(r, mem, op, f),
-        13 => system::stop(mem, f),
-        14 => system::trap(op, f),
-        15 => system::trap_overflow(f),
-        _ => system::check_bounds(r, mem, op, f),
+        0 => taking(20, system::immediate_to_ccr(codes::AND, mem, f)),
+        1 => taking(20, system::immediate_to_sr(codes::AND, mem, f)),
+        2 => taking(20, system::immediate_to_ccr(codes::EXCLUSIVE_OR, mem, f)),
+        3 => taking(20, system::immediate_to_sr(codes::EXCLUSIVE_OR, mem, f)),
+        4 => taking(20, system::immediate_to_ccr(codes::OR, mem, f)),
+        5 => taking(20, system::immediate_to_sr(codes::OR, mem, f)),
+        6 => taking(
+            clocks::narrow(6, 8, op),
+            system::move_from_sr(r, mem, op, f),
+        ),
+        7 => taking(
+            clocks::narrow(12, 12, op),
+            system::move_to_ccr(r, mem, op, f),
+        ),
+        8 => taking(
+            clocks::narrow(12, 12, op),
+            system::move_to_sr(r, mem, op, f),
+        ),
+        9 => taking(4, system::move_to_usp(r, op, f)),
+        10 => taking(4, system::move_from_usp(r, op, f)),
+        11 => taking(132, system::reset_devices(f)),
+        12 => taking(20, system::return_exception(r, mem, op, f)),
+        13 => taking(4, system::stop(mem, f)),
+        14 => taking(0, system::trap(op, f)),
+        15 => taking(4, system::trap_overflow(f)),
+        _ => taking(
+            clocks::narrow(10, 10, op),
+            system::check_bounds(r, mem, op, f),
+        ),
     }
 }
 
-// The function of a kind.
-fn dispatch(k: u32, r: &mut [u32; SLOTS], mem: &[u8], op: u32, f: Flow) -> Plan
-    ensures { λ p. ⌜ record { r = now (r .exit); p = p } ≡ dispatch k (now (r .entry)) (view-of (now (mem .entry))) op f ⌝ }
+// The function of a kind, and its clocks.
+fn dispatch(k: u32, r: &mut [u32; SLOTS], mem: &[u8], op: u32, f: Flow) -> Timed
+    ensures { λ t. ⌜ record { r = now (r .exit); p = t .plan } ≡ dispatch k (now (r .entry)) (view-of (now (mem .entry))) op f ⌝ }
+    ensures { λ t. ⌜ t .clocks ≡ clocks k (now (r .entry)) (view-of (now (mem .entry))) op f ⌝ }
 {
     let first = k < kinds::MOVE;
     if first {
@@ -184,32 +377,89 @@ fn dispatch(k: u32, r: &mut [u32; SLOTS], mem: &[u8], op: u32, f: Flow) -> Plan
 }
 
 // In user state a privileged instruction is refused.
-fn as_user(k: u32, r: &mut [u32; SLOTS], mem: &[u8], op: u32, f: Flow) -> Plan
-    ensures { λ p. ⌜ record { r = now (r .exit); p = p } ≡ as-user k (now (r .entry)) (view-of (now (mem .entry))) op f ⌝ }
+fn as_user(k: u32, r: &mut [u32; SLOTS], mem: &[u8], op: u32, f: Flow) -> Timed
+    ensures { λ t. ⌜ record { r = now (r .exit); p = t .plan } ≡ as-user k (now (r .entry)) (view-of (now (mem .entry))) op f ⌝ }
+    ensures { λ t. ⌜ t .clocks ≡ user-clocks k (now (r .entry)) (view-of (now (mem .entry))) op f ⌝ }
 {
     let high = decode::privileged(k);
     if high {
-        return refused(codes::PRIVILEGE_VIOLATION, f);
+        return taking(0, refused(codes::PRIVILEGE_VIOLATION, f));
     }
     dispatch(k, r, mem, op, f)
 }
 
-// The operation word alone decides illegal and privileged. The commonest kinds, none of them privileged, are asked first, for speed.
-pub fn execute(r: &mut [u32; SLOTS], mem: &[u8], op: u32, f: Flow) -> Plan
-    ensures { λ p. ⌜ record { r = now (r .exit); p = p } ≡ execute (now (r .entry)) (view-of (now (mem .entry))) op f ⌝ }
+// PC behind a branch that is not taken.
+fn after_branch(op: u32, pc: u32) -> u32
+    ensures { λ n. ⌜ n ≡ after-branch op pc ⌝ }
+{
+    let word = op % 256 == 0;
+    if word {
+        return std::num::wrapping_add_u32(pc, 2);
+    }
+    pc
+}
+
+// What the type says of the registers: the data registers are there.
+fn data_registers(r: &[u32; SLOTS]) -> usize
+    ensures { λ _. ⌜ 8 ≤ length (now (r .entry)) ⌝ }
+{
+    registers_there(r)
+}
+
+fn registers_there(r: &[u32]) -> usize
+    ensures { λ n. ⌜ n ≡ length (now (r .entry)) ⌝ }
+{
+    r.len()
+}
+
+// The operation word alone decides illegal and privileged. The commonest kinds, none of them privileged, are asked first, for speed. Where a
+// branch leaves PC at another place than the next instruction's it was taken: its condition is asked once more only where it may not be.
+pub fn execute(r: &mut [u32; SLOTS], mem: &[u8], op: u32, f: Flow) -> Timed
+    ensures { λ t. ⌜ record { r = now (r .exit); p = t .plan } ≡ execute (now (r .entry)) (view-of (now (mem .entry))) op f ⌝ }
+    ensures { λ t. ⌜ t .clocks ≡ own-clocks (now (r .entry)) (view-of (now (mem .entry))) op f ⌝ }
 {
     let k = decode::kind_of(op);
     let branches = (k == kinds::BCC) | (k == kinds::BRA);
     if branches {
-        return control::branch(mem, op, f);
+        let p = control::branch(mem, op, f);
+        let g = p.flow;
+        let on = g.pc == after_branch(op, f.pc);
+        if on {
+            return Timed {
+                plan: p,
+                clocks: clocks::branched(10, 8, 12, op, f),
+            };
+        }
+        return Timed {
+            plan: p,
+            clocks: 10,
+        };
     }
     let counts = k == kinds::DBCC;
     if counts {
-        return control::decrement_branch(r, mem, op, f);
+        let there = data_registers(r);
+        let p = control::decrement_branch(r, mem, op, f);
+        let g = p.flow;
+        let on = g.pc == std::num::wrapping_add_u32(f.pc, 2);
+        if on {
+            let spent = operand::get(r, op % 8) % 65536 == 0xFFFF;
+            return Timed {
+                plan: p,
+                clocks: clocks::counted_by(12, 10, 14, spent, op, f),
+            };
+        }
+        return Timed {
+            plan: p,
+            clocks: 10,
+        };
     }
     let moves = k == kinds::MOVE;
     if moves {
-        return movement::move_data(r, mem, op, f);
+        let p = movement::move_data(r, mem, op, f);
+        return Timed {
+            plan: p,
+            clocks: clocks::moved(op),
+        };
     }
     let user = f.sr / codes::SUPERVISOR % 2 == 0;
     if user {

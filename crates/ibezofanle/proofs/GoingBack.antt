@@ -35,7 +35,7 @@ box-of y = record { block = block-of (y .slots); memory = y .memory; journal = y
 -- ---- one call on a block of 80 bytes
 module _ (x : Box) (e : length (x .block) ≡ block-length) where
   -- its answer is that of the machine's call, and the block that it leaves holds the slots that the machine's call leaves
-  abbrev held : {A : Type 0} → List ℕ → List ℕ → List ℕ → A → OnBlock A
+  abbrev pub held : {A : Type 0} → List ℕ → List ℕ → List ℕ → A → OnBlock A
   held s m j a = record { b = block-of s; m = m; j = j; a = a }
 
   ibz-stepping-held : (level vector : ℕ)
@@ -43,7 +43,7 @@ module _ (x : Box) (e : length (x .block) ≡ block-length) where
   unfolding ibz-step
   ibz-stepping-held level vector = on-block-held (x .block) (x .memory) (x .journal) (step-refusal (x .mark)) _ _ _ _ e
 
-  ibz-running-held : (budget stop : ℕ)
+  pub ibz-running-held : (budget stop : ℕ)
       → ibz-running budget stop x ≡ (let c = running-on budget stop (machine-in x) in held (c .s) (c .m) (c .j) (c .a))
   unfolding ibz-run
   ibz-running-held budget stop = on-block-held (x .block) (x .memory) (x .journal) (run-refusal (x .mark)) _ _ _ _ e
@@ -124,7 +124,7 @@ pub record Lends (x : Box) : Type 0 where
   pub memory-bytes : ValidBytes (x .memory)
 
 module _ (x : Box) (l : Lends x) where
-  lent-in : Lent (machine-in x .slots) (machine-in x .memory)
+  pub lent-in : Lent (machine-in x .slots) (machine-in x .memory)
   lent-in =
       record {
         slots = length-of-slots slot-limit (x .block);

@@ -2,3 +2,4 @@ pub mod PromiseLaws
 pub mod CallLaws
 pub mod RefusalLaws
 pub mod GoingBack
+pub mod ClockLaws

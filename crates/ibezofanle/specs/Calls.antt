@@ -1,6 +1,6 @@
 -- Calls.antt - reset, step, run and undo from C: the machine's calls on the slots that the block holds, and refusal 9 before all others.
 -- After a call the block holds the returned state; at 9 nothing is read, judged or altered.
--- Uses: bits, block, machine.  Laws: proofs/.  Source: [K1].
+-- Uses: bits, block, machine.  Laws: proofs/.  Source: [K1], [K2].
 use Prim.Native.Nat.{ℕ}
 use mathlib.Core.Bool.{Bool}
 use mathlib.Core.List.{List}
@@ -52,13 +52,13 @@ on-block b m j refusal s₁ m₁ j₁ a =
     (record { b = block-of s₁; m = m₁; j = j₁; a = a })
     (record { b = b; m = m; j = j; a = refusal no-block })
 
--- the answer of a refused step: its number, the mark as given, 0 for the rest  [01 Calls, table]
+-- the answer of a refused step: its number, the mark as given, 0 for the rest  [01 Calls, table] [K2]
 abbrev pub step-refusal : ℕ → ℕ → StepAnswer
-step-refusal mark n = record { number = n; event = 0; mark = mark }
+step-refusal mark n = record { number = n; event = 0; mark = mark; clocks = 0 }
 
--- the answer of a refused run: likewise  [01 Calls, table]
+-- the answer of a refused run: likewise  [01 Calls, table] [K2]
 abbrev pub run-refusal : ℕ → ℕ → RunAnswer
-run-refusal mark n = record { number = n; reason = 0; mark = mark; steps = 0 }
+run-refusal mark n = record { number = n; reason = 0; mark = mark; steps = 0; clocks = 0 }
 
 -- the answer of a refused undo: likewise  [01 Calls, table]
 abbrev pub undo-refusal : ℕ → ℕ → UndoAnswer

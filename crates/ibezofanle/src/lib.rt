@@ -1,8 +1,9 @@
 // lib.rt - the calls from C: reset, step, run and undo, with the state in a lent block of 80 bytes. No call has a `requires`.
 // Means: specs/Calls.antt, specs/Promises.antt.  Laws: proofs/CallLaws.antt, and the theorems beside it.
-// Uses: block, machine.  Declared for C in c/ibezofanle.h.  Source: [K1].
+// Uses: block, machine.  Declared for C in c/ibezofanle.h.  Source: [K1], [K2].
 ghost use Rattle.ibezofanle.specs.Promises.{IbzResetPromise, IbzStepPromise, IbzRunPromise, IbzUndoPromise};
 use block::BLOCK_LENGTH;
+use machine::NO_CLOCKS;
 use machine::RunAnswer;
 use machine::StepAnswer;
 use machine::UndoAnswer;
@@ -46,6 +47,7 @@ pub extern "C" fn ibz_step(
             number: NO_BLOCK,
             event: 0,
             mark,
+            clocks: NO_CLOCKS,
         };
     }
     let mut slots = block::slots_in(block);
@@ -71,6 +73,7 @@ pub extern "C" fn ibz_run(
             reason: 0,
             mark,
             steps: 0,
+            clocks: NO_CLOCKS,
         };
     }
     let mut slots = block::slots_in(block);

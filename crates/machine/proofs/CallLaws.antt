@@ -9,13 +9,14 @@ use mathlib.Core.List.{List, [], _∷_}
 use lib.ListN.{length, getD}
 use lib.Dec.{ltb, leb, eqb}
 use borrow.Author.Tests.{eqb-true, ltb-true, ltb-false, leb-true}
+use Rattle.codes.specs.Codes.{MostSteps}
 use Rattle.bits.specs.Bits.{pick}
 use Rattle.bus.specs.declared.Flow.{Flow}
 use Rattle.bus.specs.declared.Fetched.{Fetched}
 use Rattle.bus.specs.Bus.{view-of, read-long}
 use Rattle.bank.specs.Bank.{long, pc-of, sr-of, mode-of}
 use Rattle.exception.specs.Exceptions.{Stepped, fresh}
-use Rattle.step.specs.Steps.{one-step}
+use Rattle.step.specs.Steps.{one-step, step-clocks}
 use Rattle.numbers.specs.Number.{written}
 use Rattle.numbers.proofs.WrittenLaws.{length-written}
 use Rattle.record.specs.Limits.{slot-limit, byte-limit, longest-record, valid-status, ValidSlots, ValidBytes}
@@ -88,11 +89,11 @@ valid-lent s m size words bytes fits ok =
       fits = fits;
     }
 
--- a step that is taken: t, m₁, ev are what it gives, l₁ the log of n entries
-module _ (s m j l : List ℕ) (level vector mark : ℕ) (valid : Valid s m) (room : mark + longest-record ≤ length j) (t m₁ l₁ : List ℕ) (n ev : ℕ)
-    (e : (t ≡ one-step s m level vector .s) × ((m₁ ≡ one-step s m level vector .m) × ((ev ≡ one-step s m level vector .event) × Noted m l 0 byte-limit m₁ l₁ n))) where
+-- a step that is taken: t, m₁, ev, ck are what it gives, l₁ the log of n entries
+module _ (s m j l : List ℕ) (level vector mark : ℕ) (valid : Valid s m) (room : mark + longest-record ≤ length j) (t m₁ l₁ : List ℕ) (n ev ck : ℕ)
+    (e : (t ≡ one-step s m level vector .s) × ((m₁ ≡ one-step s m level vector .m) × ((ev ≡ one-step s m level vector .event) × (Noted m l 0 byte-limit m₁ l₁ n × (ck ≡ step-clocks s m level vector))))) where
   noted : Noted m l 0 byte-limit m₁ l₁ n
-  noted = e .1 .1 .1
+  noted = e .1 .1 .1 .0
 
   abbrev logged : List ℕ
   logged = step-record s t (restore (changes l₁ n) m₁) m₁
@@ -121,12 +122,13 @@ module _ (s m j l : List ℕ) (level vector mark : ℕ) (valid : Valid s m) (roo
         }
 
     pub taken : let c = step-taken s m level vector j mark in
-        (t ≡ c .s) × ((m₁ ≡ c .m) × ((j₁ ≡ c .j) × ((record { number = 0; event = ev; mark = r } ≡ c .a) × GoesOn t m m₁ j j₁ l l₁ r)))
+        (t ≡ c .s) × ((m₁ ≡ c .m) × ((j₁ ≡ c .j) × ((record { number = 0; event = ev; mark = r; clocks = ck } ≡ c .a) × GoesOn t m m₁ j j₁ l l₁ r)))
     unfolding step-taken
     taken =
         let x = e .1 .1 .0 in
+        let w = e .1 .1 .1 .1 in
         let y = q .0 ∙ ap (λ (b : List ℕ). mark + length b) recorded in
-        (e .0, (e .1 .0, (q .1 ∙ ap (written j mark) recorded, (rw (x, y), goes-on))))
+        (e .0, (e .1 .0, (q .1 ∙ ap (written j mark) recorded, (rw (x, y, w), goes-on))))
 
 -- undo's answer
 module _ (mark : ℕ) (a : Answer) where
@@ -170,7 +172,7 @@ module _ (s m : List ℕ) (level vector : ℕ) (j : List ℕ) (mark k : ℕ) (e 
           answer = t ∙ ap (λ (c : StepCall). c .a) c;
         }
 
-  pub step-refused-promised : eqb k 0 ≡ false → StepPromise s m level vector j mark s m j (record { number = k; event = 0; mark = mark })
+  pub step-refused-promised : eqb k 0 ≡ false → StepPromise s m level vector j mark s m j (record { number = k; event = 0; mark = mark; clocks = 0 })
   unfolding step-call
   step-refused-promised z = let y : eqb (step-number s m level j mark) 0 ≡ false = rw e at z in record { slots = rw y; memory = rw y; journal = rw y; answer = rw (y, e) }
 
@@ -180,15 +182,15 @@ module _ (s m : List ℕ) (budget stop : ℕ) (j : List ℕ) (mark k : ℕ) (e :
     run-zero : run-number s m budget j mark ≡ 0
     run-zero = sym e ∙ eqb-true k 0 z
 
-    pub run-may : (memory-fits m ≡ true) × (mark ≤ length j) × (state-fits s ≡ true)
-    run-may = let q = run-inv s m budget j mark run-zero in (q .0, q .3, q .1)
+    pub run-may : (memory-fits m ≡ true) × (mark ≤ length j) × (state-fits s ≡ true) × (budget ≤ MostSteps)
+    run-may = let q = run-inv s m budget j mark run-zero in (q .0, q .3, q .1, q .2)
 
-    run-called : running budget 0 stop s m j mark ≡ run-call s m budget stop j mark
+    run-called : running budget 0 0 stop s m j mark ≡ run-call s m budget stop j mark
     unfolding run-call
     run-called = rw run-zero
 
-    pub run-promised : (s₁ m₁ j₁ : List ℕ) (a : RunAnswer) → s₁ ≡ running budget 0 stop s m j mark .s → m₁ ≡ running budget 0 stop s m j mark .m → j₁ ≡ running budget 0 stop s m j mark .j
-        → a ≡ running budget 0 stop s m j mark .a → RunPromise s m budget stop j mark s₁ m₁ j₁ a
+    pub run-promised : (s₁ m₁ j₁ : List ℕ) (a : RunAnswer) → s₁ ≡ running budget 0 0 stop s m j mark .s → m₁ ≡ running budget 0 0 stop s m j mark .m → j₁ ≡ running budget 0 0 stop s m j mark .j
+        → a ≡ running budget 0 0 stop s m j mark .a → RunPromise s m budget stop j mark s₁ m₁ j₁ a
     run-promised s₁ m₁ j₁ a p q r t =
         record {
           slots = p ∙ ap (λ (c : RunCall). c .s) run-called;
@@ -197,7 +199,7 @@ module _ (s m : List ℕ) (budget stop : ℕ) (j : List ℕ) (mark k : ℕ) (e :
           answer = t ∙ ap (λ (c : RunCall). c .a) run-called;
         }
 
-  pub run-refused-promised : eqb k 0 ≡ false → RunPromise s m budget stop j mark s m j (record { number = k; reason = 0; mark = mark; steps = 0 })
+  pub run-refused-promised : eqb k 0 ≡ false → RunPromise s m budget stop j mark s m j (record { number = k; reason = 0; mark = mark; steps = 0; clocks = 0 })
   unfolding run-call
   run-refused-promised z = let y : eqb (run-number s m budget j mark) 0 ≡ false = rw e at z in record { slots = rw y; memory = rw y; journal = rw y; answer = rw (y, e) }
 

@@ -7,6 +7,7 @@ pub mod SlotsLaws
 pub mod ActLaws
 pub mod FrameLaws
 pub mod RunLaws
+pub mod ClockLaws
 pub mod GoingBack
 pub mod HistoryLaws
 pub mod CallLaws

@@ -1,7 +1,7 @@
--- LoopLaws.antt - the loop of a run: what is left of it, done now, gives the whole run's answer.
--- Going, going-start, going-again; going-spent and the four other reasons; going-requires.
+-- LoopLaws.antt - the loop of a run: what is left of it, done now, gives the whole run's answer, and the sum of the clocks fits.
+-- Going, going-start, going-again; going-spent and the four other reasons; going-requires, going-sum.
 -- Uses: bits, bank, record, step.
-use Prim.Native.Nat.{ℕ, zero, suc, _+_, _-_, _≤_, _<_}
+use Prim.Native.Nat.{ℕ, zero, suc, _+_, _-_, _*_, _≤_, _<_, _^_}
 use native.Mathlib.Omega.{arith}
 use mathlib.Core.Path.{_≡_, refl, sym, ap, _∙_}
 use mathlib.Core.Bool.{Bool, true, false}
@@ -9,18 +9,23 @@ use mathlib.Core.List.{List}
 use lib.ListN.{length, getD}
 use lib.Dec.{ltb, leb, eqb}
 use borrow.Author.Tests.{leb-true, leb-false, ltb-false}
+use Rattle.codes.specs.Codes.{MostSteps}
 use Rattle.bits.specs.Bits.{pick}
 use Rattle.bank.specs.Bank.{pc-of, mode-of}
 use Rattle.record.specs.Limits.{byte-limit, longest-record}
+use Rattle.step.specs.Steps.{most-clocks, step-clocks}
+use Rattle.step.proofs.LargestLaws.{largest-step}
 use Rattle.machine.specs.declared.StepAnswer.{StepAnswer}
 use Rattle.machine.specs.declared.RunAnswer.{RunAnswer}
 use Rattle.machine.specs.Loop.{GoesOn}
 use Rattle.machine.specs.Calls.{memory-fits, state-fits, step-taken, RunCall, ended, running}
 
--- at the loop's head, n steps done: what is left of the run gives its answer, and a step can be taken
-pub record Going (b stop : ℕ) (s₀ m₀ j₀ : List ℕ) (mark₀ : ℕ) (l₀ s m j : List ℕ) (mark : ℕ) (l : List ℕ) (n : ℕ) : Type 0 where
+-- at the loop's head, n steps of c clocks done: what is left of the run gives its answer, and a step can be taken
+pub record Going (b stop : ℕ) (s₀ m₀ j₀ : List ℕ) (mark₀ : ℕ) (l₀ s m j : List ℕ) (mark : ℕ) (l : List ℕ) (n c : ℕ) : Type 0 where
   pub le : n ≤ b
-  pub rest : running (b - n) n stop s m j mark ≡ running b 0 stop s₀ m₀ j₀ mark₀
+  pub few : b ≤ MostSteps
+  pub sum : c ≤ most-clocks * n
+  pub rest : running (b - n) n c stop s m j mark ≡ running b 0 0 stop s₀ m₀ j₀ mark₀
   pub state : state-fits s ≡ true
   pub memory : memory-fits m ≡ true
   pub same-memory : length m ≡ length m₀
@@ -29,30 +34,41 @@ pub record Going (b stop : ℕ) (s₀ m₀ j₀ : List ℕ) (mark₀ : ℕ) (l�
   pub room : byte-limit ≤ length l
   pub inside : mark ≤ length j
 
-pub going-start : (b stop : ℕ) (s m j : List ℕ) (mark : ℕ) (l : List ℕ) → memory-fits m ≡ true → mark ≤ length j → byte-limit ≤ length l → state-fits s ≡ true → Going b stop s m j mark l s m j mark l 0
-going-start b stop s m j mark l f h k t =
-    record { le = omega arith; rest = (let e : b - 0 ≡ b = omega arith in rw e); state = t; memory = f; same-memory = refl; same-journal = refl; same-log = refl; room = k; inside = h }
+pub going-start : (b stop : ℕ) (s m j : List ℕ) (mark : ℕ) (l : List ℕ) → memory-fits m ≡ true → mark ≤ length j → byte-limit ≤ length l → state-fits s ≡ true → b ≤ MostSteps → Going b stop s m j mark l s m j mark l 0 0
+going-start b stop s m j mark l f h k t few =
+    record { le = omega arith; few = few; sum = omega arith; rest = (let e : b - 0 ≡ b = omega arith in rw e); state = t; memory = f; same-memory = refl; same-journal = refl; same-log = refl; room = k; inside = h }
 
-module _ {b stop : ℕ} {s₀ m₀ j₀ : List ℕ} {mark₀ : ℕ} {l₀ s m j : List ℕ} {mark : ℕ} {l : List ℕ} {n : ℕ}
-    (i : Going b stop s₀ m₀ j₀ mark₀ l₀ s m j mark l n) where
+module _ {b stop : ℕ} {s₀ m₀ j₀ : List ℕ} {mark₀ : ℕ} {l₀ s m j : List ℕ} {mark : ℕ} {l : List ℕ} {n c : ℕ}
+    (i : Going b stop s₀ m₀ j₀ mark₀ l₀ s m j mark l n c) where
   -- the run gives what is there now, and reason k
   abbrev Gives : ℕ → Type 0
   Gives k =
-      let o = running b 0 stop s₀ m₀ j₀ mark₀ in
-      (s ≡ o .s) × ((m ≡ o .m) × ((j ≡ o .j) × (record { number = 0; reason = k; mark = mark; steps = n } ≡ o .a)))
+      let o = running b 0 0 stop s₀ m₀ j₀ mark₀ in
+      (s ≡ o .s) × ((m ≡ o .m) × ((j ≡ o .j) × (record { number = 0; reason = k; mark = mark; steps = n; clocks = c } ≡ o .a)))
 
-  gives : (k : ℕ) → ended k n s m j mark ≡ running b 0 stop s₀ m₀ j₀ mark₀ → Gives k
+  gives : (k : ℕ) → ended k n c s m j mark ≡ running b 0 0 stop s₀ m₀ j₀ mark₀ → Gives k
   gives k e = (ap (λ (o : RunCall). o .s) e, (ap (λ (o : RunCall). o .m) e, (ap (λ (o : RunCall). o .j) e, ap (λ (o : RunCall). o .a) e)))
 
   pub going-spent : leb b n ≡ true → Gives 1
   unfolding running
   going-spent p = let z : b - n ≡ 0 = (let h : b ≤ n = leb-true b n p in omega arith) in gives 1 (rw z at (i .rest))
 
+  -- the sum with one more step's clocks
+  summed : (a : StepAnswer) → a ≡ step-taken s m 0 0 j mark .a → c + a .clocks ≤ most-clocks * (n + 1)
+  unfolding step-taken
+  summed a e =
+      let q : a .clocks ≡ step-clocks s m 0 0 = ap (λ (a : StepAnswer). a .clocks) e in
+      omega (arith, q, i .sum, largest-step s m 0 0)
+
+  -- it fits 32 bits
+  pub going-sum : leb b n ≡ false → (a : StepAnswer) → a ≡ step-taken s m 0 0 j mark .a → c + a .clocks < 2 ^ 32
+  going-sum p a e = let h : n < b = leb-false b n p in omega (arith, summed a e, i .few)
+
   module _ (p : leb b n ≡ false) where
     more : b - n ≡ suc (b - (n + 1))
     more = let h : n < b = leb-false b n p in omega arith
 
-    now-left : running (suc (b - (n + 1))) n stop s m j mark ≡ running b 0 stop s₀ m₀ j₀ mark₀
+    now-left : running (suc (b - (n + 1))) n c stop s m j mark ≡ running b 0 0 stop s₀ m₀ j₀ mark₀
     now-left = rw more at (i .rest)
 
     pub going-halted : eqb (mode-of s) 2 ≡ true → Gives 2
@@ -76,17 +92,19 @@ module _ {b stop : ℕ} {s₀ m₀ j₀ : List ℕ} {mark₀ : ℕ} {l₀ s m j 
 
           module _ (h5 : eqb (pc-of s) stop ≡ false) (s₁ m₁ j₁ l₁ : List ℕ) (a : StepAnswer) (e1 : s₁ ≡ step-taken s m 0 0 j mark .s) (e2 : m₁ ≡ step-taken s m 0 0 j mark .m)
               (e3 : j₁ ≡ step-taken s m 0 0 j mark .j) (e4 : a ≡ step-taken s m 0 0 j mark .a) (g : GoesOn s₁ m m₁ j j₁ l l₁ (a .mark)) where
-            going-rest : running (b - (n + 1)) (n + 1) stop s₁ m₁ j₁ (a .mark) ≡ running b 0 stop s₀ m₀ j₀ mark₀
+            going-rest : running (b - (n + 1)) (n + 1) (c + a .clocks) stop s₁ m₁ j₁ (a .mark) ≡ running b 0 0 stop s₀ m₀ j₀ mark₀
             unfolding running
             going-rest =
-                let q : running (b - (n + 1)) (n + 1) stop (step-taken s m 0 0 j mark .s) (step-taken s m 0 0 j mark .m) (step-taken s m 0 0 j mark .j) (step-taken s m 0 0 j mark .a .mark) ≡ running b 0 stop s₀ m₀ j₀ mark₀ =
+                let q : running (b - (n + 1)) (n + 1) (c + step-taken s m 0 0 j mark .a .clocks) stop (step-taken s m 0 0 j mark .s) (step-taken s m 0 0 j mark .m) (step-taken s m 0 0 j mark .j) (step-taken s m 0 0 j mark .a .mark) ≡ running b 0 0 stop s₀ m₀ j₀ mark₀ =
                 rw (h2, h3, h4, h5) at now-left in
                 rw (e1, e2, e3, e4) q
 
-            pub going-again : Going b stop s₀ m₀ j₀ mark₀ l₀ s₁ m₁ j₁ (a .mark) l₁ (n + 1)
+            pub going-again : Going b stop s₀ m₀ j₀ mark₀ l₀ s₁ m₁ j₁ (a .mark) l₁ (n + 1) (c + a .clocks)
             going-again =
                 record {
                   le = (let h : n < b = leb-false b n p in omega arith);
+                  few = i .few;
+                  sum = summed a e4;
                   rest = going-rest;
                   state = g .state;
                   memory = g .memory;

@@ -174,7 +174,7 @@ module _ (s m : List ℕ) (level : ℕ) (j : List ℕ) (mark : ℕ) where
     step-accepted e = rw (eq-eqb (step-number s m level j mark) 0 (sym step-call-number ∙ e))
 
     pub step-refused : (step-call s m level vector j mark .a .number ≡ 0 → ⊥)
-        → step-call s m level vector j mark ≡ record { s = s; m = m; j = j; a = record { number = step-call s m level vector j mark .a .number; event = 0; mark = mark } }
+        → step-call s m level vector j mark ≡ record { s = s; m = m; j = j; a = record { number = step-call s m level vector j mark .a .number; event = 0; mark = mark; clocks = 0 } }
     unfolding step-call
     step-refused h = rw (ne-eqb (step-number s m level j mark) 0 (λ e. h (step-call-number ∙ e)))
 
@@ -203,19 +203,19 @@ module _ (s m : List ℕ) (level : ℕ) (j : List ℕ) (mark : ℕ) where
       rw (f, g, le-ltb 7 level h, le-ltb (length j) mark i, le-ltb (length j - mark) longest-record k, ne-eqb (mode-of s) 2 r)
 
 -- ---- run
-running-number : (k n stop : ℕ) (s m j : List ℕ) (mark : ℕ) → running k n stop s m j mark .a .number ≡ 0
+running-number : (k n c stop : ℕ) (s m j : List ℕ) (mark : ℕ) → running k n c stop s m j mark .a .number ≡ 0
 unfolding running
-running-number zero n stop s m j mark = refl
-running-number (suc k) n stop s m j mark = go (eqb (mode-of s) 2) refl (eqb (mode-of s) 1) refl (ltb (length j - mark) longest-record) refl (eqb (pc-of s) stop) refl (running-number k (n + 1) stop)
+running-number zero n c stop s m j mark = refl
+running-number (suc k) n c stop s m j mark = go (eqb (mode-of s) 2) refl (eqb (mode-of s) 1) refl (ltb (length j - mark) longest-record) refl (eqb (pc-of s) stop) refl (λ c s m j mark. running-number k (n + 1) c stop s m j mark)
   where
-    go : (a : Bool) → eqb (mode-of s) 2 ≡ a → (b : Bool) → eqb (mode-of s) 1 ≡ b → (c : Bool) → ltb (length j - mark) longest-record ≡ c → (d : Bool) → eqb (pc-of s) stop ≡ d
-        → ((s m j : List ℕ) (mark : ℕ) → running k (n + 1) stop s m j mark .a .number ≡ 0)
-        → running (suc k) n stop s m j mark .a .number ≡ 0
-    go true e b f c g d h r = rw e
-    go false e true f c g d h r = rw (e, f)
+    go : (a : Bool) → eqb (mode-of s) 2 ≡ a → (b : Bool) → eqb (mode-of s) 1 ≡ b → (u : Bool) → ltb (length j - mark) longest-record ≡ u → (d : Bool) → eqb (pc-of s) stop ≡ d
+        → ((c : ℕ) (s m j : List ℕ) (mark : ℕ) → running k (n + 1) c stop s m j mark .a .number ≡ 0)
+        → running (suc k) n c stop s m j mark .a .number ≡ 0
+    go true e b f u g d h r = rw e
+    go false e true f u g d h r = rw (e, f)
     go false e false f true g d h r = rw (e, f, g)
     go false e false f false g true h r = rw (e, f, g, h)
-    go false e false f false g false h r = rw (e, f, g, h) (r _ _ _ _)
+    go false e false f false g false h r = rw (e, f, g, h) (r _ _ _ _ _)
 
 module _ (s m : List ℕ) (budget : ℕ) (j : List ℕ) (mark : ℕ) where
   run-given : Given (run-table s m budget j mark) (run-number s m budget j mark)
@@ -234,17 +234,17 @@ module _ (s m : List ℕ) (budget : ℕ) (j : List ℕ) (mark : ℕ) where
   module _ (stop : ℕ) where
     pub run-call-number : run-call s m budget stop j mark .a .number ≡ run-number s m budget j mark
     unfolding run-call
-    run-call-number = call-number (λ (c : RunCall). c .a .number) (run-number s m budget j mark) _ _ (running-number budget 0 stop s m j mark) refl
+    run-call-number = call-number (λ (c : RunCall). c .a .number) (run-number s m budget j mark) _ _ (running-number budget 0 0 stop s m j mark) refl
 
     pub run-verdict : Verdict (run-table s m budget j mark) (run-call s m budget stop j mark .a .number)
     run-verdict = verdict (run-table s m budget j mark) (run-call s m budget stop j mark .a .number) (omega arith) (rw run-call-number run-given)
 
-    pub run-accepted : run-call s m budget stop j mark .a .number ≡ 0 → run-call s m budget stop j mark ≡ running budget 0 stop s m j mark
+    pub run-accepted : run-call s m budget stop j mark .a .number ≡ 0 → run-call s m budget stop j mark ≡ running budget 0 0 stop s m j mark
     unfolding run-call
     run-accepted e = rw (eq-eqb (run-number s m budget j mark) 0 (sym run-call-number ∙ e))
 
     pub run-refused : (run-call s m budget stop j mark .a .number ≡ 0 → ⊥)
-        → run-call s m budget stop j mark ≡ record { s = s; m = m; j = j; a = record { number = run-call s m budget stop j mark .a .number; reason = 0; mark = mark; steps = 0 } }
+        → run-call s m budget stop j mark ≡ record { s = s; m = m; j = j; a = record { number = run-call s m budget stop j mark .a .number; reason = 0; mark = mark; steps = 0; clocks = 0 } }
     unfolding run-call
     run-refused h = rw (ne-eqb (run-number s m budget j mark) 0 (λ e. h (run-call-number ∙ e)))
 

@@ -1,9 +1,10 @@
 -- RunLaws.antt - an accepted run is its steps.
 -- * run-as-steps: after n steps done, slots, memory, journal and mark are those of n step calls in a row with level 0, each of them accepted;
---   n is at most the budget; the reason is the first that holds at the end, and before each of the n steps none held.
+--   n is at most the budget; the reason is the first that holds at the end, and before each of the n steps none held; the clocks are the
+--   sum of those that the n step calls tell.
 -- * run-frame: below the mark given and from the mark returned on, the journal is as it was.
 -- * run-memory: a byte of memory that is in the record of none of its steps is as it was.
--- Source: [01 Calls, Run], [01 How much each promise says].
+-- Source: [01 Calls, Run], [01 How much each promise says], [K2].
 use Prim.Native.Nat.{ℕ, zero, suc, _+_, _-_, _≤_, _<_}
 use mathlib.Core.Path.{_≡_, refl, sym, ap, subst, _∙_}
 use mathlib.Core.Bool.{Bool, true, false}
@@ -32,6 +33,11 @@ plain = record { level = 0; vector = 0 }
 abbrev pub one : Machine → Machine
 one x = act (step-of 0 0) x
 
+-- the clocks that n step calls in a row with level 0 tell, each given what the last one left
+abbrev pub clocks-in : ℕ → Machine → ℕ
+clocks-in zero x = 0
+clocks-in (suc n) x = stepping 0 0 x .a .clocks + clocks-in n (one x)
+
 -- the reasons at a machine, with n steps done
 abbrev pub reasons-at : ℕ → ℕ → ℕ → Machine → List Line
 reasons-at budget stop n x = reasons budget stop n (x .slots) (x .journal) (x .mark)
@@ -39,10 +45,11 @@ reasons-at budget stop n x = reasons budget stop n (x .slots) (x .journal) (x .m
 abbrev pub machine-of : RunCall → Machine
 machine-of c = record { slots = c .s; memory = c .m; journal = c .j; mark = c .a .mark }
 
--- what is left of a run, with n steps done before, as steps from x
-record Ran (budget stop n : ℕ) (x : Machine) (c : RunCall) : Type 1 where
+-- what is left of a run, with n steps of w clocks done before, as steps from x
+record Ran (budget stop n w : ℕ) (x : Machine) (c : RunCall) : Type 1 where
   done : ℕ
   steps : c .a .steps ≡ n + done
+  clocks : c .a .clocks ≡ w + clocks-in done x
   within : n + done ≤ budget
   same : machine-of c ≡ iter one done x
   accepted : (i : ℕ) → i < done → stepping 0 0 (iter one i x) .a .number ≡ 0
@@ -52,17 +59,18 @@ record Ran (budget stop n : ℕ) (x : Machine) (c : RunCall) : Type 1 where
 
 module _ (budget stop : ℕ) where
   -- what is left of a run at a machine, k of its budget
-  abbrev left : ℕ → ℕ → Machine → RunCall
-  left k n x = running k n stop (x .slots) (x .memory) (x .journal) (x .mark)
+  abbrev left : ℕ → ℕ → ℕ → Machine → RunCall
+  left k n w x = running k n w stop (x .slots) (x .memory) (x .journal) (x .mark)
 
   -- a run that ends here, by a reason
-  here : (n : ℕ) (x : Machine) (c : RunCall) → machine-of c ≡ x → c .a .steps ≡ n → n ≤ budget → Given (reasons-at budget stop n x) (c .a .reason) → (c .a .reason ≡ 0 → ⊥) → Ran budget stop n x c
+  here : (n w : ℕ) (x : Machine) (c : RunCall) → machine-of c ≡ x → c .a .steps ≡ n → c .a .clocks ≡ w → n ≤ budget → Given (reasons-at budget stop n x) (c .a .reason) → (c .a .reason ≡ 0 → ⊥) → Ran budget stop n w x c
   unfolding iter
-  here n x c e f h g z =
+  here n w x c e f d h g z =
       let q : n ≡ n + 0 = omega arith in
       record {
         done = 0;
         steps = f ∙ q;
+        clocks = d ∙ omega arith;
         within = omega arith;
         same = e;
         accepted = λ i l. absurd (not-suc-le-zero l);
@@ -72,13 +80,14 @@ module _ (budget stop : ℕ) where
       }
 
   -- a run that takes a step here
-  onward : (n : ℕ) (x : Machine) (c : RunCall) → stepping 0 0 x .a .number ≡ 0 → NoneApplies (reasons-at budget stop n x) → Ran budget stop (n + 1) (one x) c → Ran budget stop n x c
+  onward : (n w : ℕ) (x : Machine) (c : RunCall) → stepping 0 0 x .a .number ≡ 0 → NoneApplies (reasons-at budget stop n x) → Ran budget stop (n + 1) (w + stepping 0 0 x .a .clocks) (one x) c → Ran budget stop n w x c
   unfolding iter
-  onward n x c ok free r =
+  onward n w x c ok free r =
       let q : n + 1 + r .done ≡ n + suc (r .done) = omega arith in
       record {
         done = suc (r .done);
         steps = r .steps ∙ q;
+        clocks = r .clocks ∙ omega arith;
         within = omega (arith, r .within);
         same = r .same;
         accepted = elim [ zero ↦ λ l. ok | suc i ↦ λ l. r .accepted i (le-of-suc-le-suc l) ];
@@ -112,59 +121,64 @@ module _ (budget stop : ℕ) where
           let f = step-frame plain x (lent-when-valid (x .slots) (x .memory) v) ok .0 in
           omega (arith, f .inside, f .same-length)
 
-    ran-on : (k n : ℕ) → n + suc k ≡ budget
-        → ((y : Machine) → Valid (y .slots) (y .memory) → y .mark ≤ length (y .journal) → Ran budget stop (n + 1) y (left k (n + 1) y))
-        → Ran budget stop n x (left (suc k) n x)
+    ran-on : (k n w : ℕ) → n + suc k ≡ budget
+        → ((y : Machine) (v : ℕ) → Valid (y .slots) (y .memory) → y .mark ≤ length (y .journal) → Ran budget stop (n + 1) v y (left k (n + 1) v y))
+        → Ran budget stop n w x (left (suc k) n w x)
     unfolding running
-    ran-on k n e next =
+    ran-on k n w e next =
         go (eqb (mode-of (x .slots)) 2) refl (eqb (mode-of (x .slots)) 1) refl (ltb (length (x .journal) - x .mark) longest-record) refl (eqb (pc-of (x .slots)) stop) refl
       where
         spent : n ≡ budget → ⊥
         spent q = omega arith
 
         go : (a : Bool) → eqb (mode-of (x .slots)) 2 ≡ a → (b : Bool) → eqb (mode-of (x .slots)) 1 ≡ b → (c : Bool) → ltb (length (x .journal) - x .mark) longest-record ≡ c → (d : Bool) → eqb (pc-of (x .slots)) stop ≡ d
-            → Ran budget stop n x (left (suc k) n x)
+            → Ran budget stop n w x (left (suc k) n w x)
         go true p b q c r d s =
             let halted = eqb-true (mode-of (x .slots)) 2 p in
-            rw p (here n x (ended 2 n (x .slots) (x .memory) (x .journal) (x .mark)) refl refl (omega arith) (later spent (this halted refl)) (λ z. omega arith))
+            rw p (here n w x (ended 2 n w (x .slots) (x .memory) (x .journal) (x .mark)) refl refl refl (omega arith) (later spent (this halted refl)) (λ z. omega arith))
         go false p true q c r d s =
             let stopped = eqb-true (mode-of (x .slots)) 1 q in
-            rw (p, q) (here n x (ended 3 n (x .slots) (x .memory) (x .journal) (x .mark)) refl refl (omega arith) (later spent (later (eqb-false (mode-of (x .slots)) 2 p) (this stopped refl))) (λ z. omega arith))
+            rw (p, q) (here n w x (ended 3 n w (x .slots) (x .memory) (x .journal) (x .mark)) refl refl refl (omega arith) (later spent (later (eqb-false (mode-of (x .slots)) 2 p) (this stopped refl))) (λ z. omega arith))
         go false p false q true r d s =
             let full = ltb-true (length (x .journal) - x .mark) longest-record r in
             rw (p, q, r)
-            (here n x (ended 4 n (x .slots) (x .memory) (x .journal) (x .mark)) refl refl (omega arith)
+            (here n w x (ended 4 n w (x .slots) (x .memory) (x .journal) (x .mark)) refl refl refl (omega arith)
             (later spent (later (eqb-false (mode-of (x .slots)) 2 p) (later (eqb-false (mode-of (x .slots)) 1 q) (this full refl)))) (λ z. omega arith))
         go false p false q false r true s =
             let there = eqb-true (pc-of (x .slots)) stop s in
             let room = ltb-false (length (x .journal) - x .mark) longest-record r in
             rw (p, q, r, s)
-            (here n x (ended 5 n (x .slots) (x .memory) (x .journal) (x .mark)) refl refl (omega arith)
+            (here n w x (ended 5 n w (x .slots) (x .memory) (x .journal) (x .mark)) refl refl refl (omega arith)
             (later spent (later (eqb-false (mode-of (x .slots)) 2 p) (later (eqb-false (mode-of (x .slots)) 1 q) (later (λ f. omega arith) (this there refl))))) (λ z. omega arith))
         go false p false q false r false s =
             let room = ltb-false (length (x .journal) - x .mark) longest-record r in
             let runs = eqb-false (mode-of (x .slots)) 2 p in
             let ok = one-accepted room runs in
             let c = step-taken (x .slots) (x .memory) 0 0 (x .journal) (x .mark) in
-            let rest = running k (n + 1) stop (c .s) (c .m) (c .j) (c .a .mark) in
-            let then : Ran budget stop (n + 1) (one x) rest = subst (λ (y : Machine). Ran budget stop (n + 1) (one x) (left k (n + 1) y)) (one-taken x ok) (next (one x) (one-valid ok) (one-inside ok)) in
-            rw (p, q, r, s) (onward n x rest ok (spent, (runs, (eqb-false (mode-of (x .slots)) 1 q, ((λ f. omega arith), (eqb-false (pc-of (x .slots)) stop s, tt))))) then)
+            let d = step-accepted (x .slots) (x .memory) 0 (x .journal) (x .mark) 0 ok in
+            let told = w + stepping 0 0 x .a .clocks in
+            let rest = running k (n + 1) (w + c .a .clocks) stop (c .s) (c .m) (c .j) (c .a .mark) in
+            let same : left k (n + 1) told (one x) ≡ rest =
+            ap (left k (n + 1) told) (one-taken x ok) ∙ ap (λ (o : StepCall). running k (n + 1) (w + o .a .clocks) stop (c .s) (c .m) (c .j) (c .a .mark)) d in
+            let then : Ran budget stop (n + 1) told (one x) rest = subst (Ran budget stop (n + 1) told (one x)) same (next (one x) told (one-valid ok) (one-inside ok)) in
+            rw (p, q, r, s) (onward n w x rest ok (spent, (runs, (eqb-false (mode-of (x .slots)) 1 q, ((λ f. omega arith), (eqb-false (pc-of (x .slots)) stop s, tt))))) then)
 
-  ran : (k n : ℕ) (x : Machine) → n + k ≡ budget → Valid (x .slots) (x .memory) → x .mark ≤ length (x .journal) → Ran budget stop n x (left k n x)
+  ran : (k n w : ℕ) (x : Machine) → n + k ≡ budget → Valid (x .slots) (x .memory) → x .mark ≤ length (x .journal) → Ran budget stop n w x (left k n w x)
   unfolding running
-  ran zero n x e v h = here n x (ended 1 n (x .slots) (x .memory) (x .journal) (x .mark)) refl refl (omega arith) (this (omega arith) refl) (λ z. omega arith)
-  ran (suc k) n x e v h = ran-on x v h k n e (λ y w l. ran k (n + 1) y (omega arith) w l)
+  ran zero n w x e v h = here n w x (ended 1 n w (x .slots) (x .memory) (x .journal) (x .mark)) refl refl refl (omega arith) (this (omega arith) refl) (λ z. omega arith)
+  ran (suc k) n w x e v h = ran-on x v h k n w e (λ y u f l. ran k (n + 1) u y (omega arith) f l)
 
 -- ---- the law
 pub record AsSteps (budget stop : ℕ) (x : Machine) (n : ℕ) : Type 1 where
   pub same : act (run-of budget stop) x ≡ iter one n x
   pub accepted : (i : ℕ) → i < n → stepping 0 0 (iter one i x) .a .number ≡ 0
+  pub clocks : running-on budget stop x .a .clocks ≡ clocks-in n x
   pub within : n ≤ budget
   pub before : (i : ℕ) → i < n → NoneApplies (reasons-at budget stop i (iter one i x))
   pub reason : Given (reasons-at budget stop n (iter one n x)) (running-on budget stop x .a .reason)
   pub given : running-on budget stop x .a .reason ≡ 0 → ⊥
 
-as-steps : (budget stop : ℕ) (x : Machine) (c : RunCall) → running-on budget stop x ≡ c → Ran budget stop 0 x c → AsSteps budget stop x (running-on budget stop x .a .steps)
+as-steps : (budget stop : ℕ) (x : Machine) (c : RunCall) → running-on budget stop x ≡ c → Ran budget stop 0 0 x c → AsSteps budget stop x (running-on budget stop x .a .steps)
 unfolding act
 as-steps budget stop x c is r =
     let from-0 : (i : ℕ) → 0 + i ≡ i = λ i. omega arith in
@@ -173,6 +187,7 @@ as-steps budget stop x c is r =
     record {
       same = ap machine-of is ∙ r .same;
       accepted = r .accepted;
+      clocks = rw is (r .clocks ∙ from-0 (clocks-in (r .done) x));
       within = omega (arith, r .within);
       before = λ i l. subst (λ (b : ℕ). NoneApplies (reasons-at budget stop b (iter one i x))) (from-0 i) (r .before i l);
       reason = rw is (subst (λ (b : ℕ). Given (reasons-at budget stop b (iter one (r .done) x)) (c .a .reason)) (from-0 (r .done)) (r .reason));
@@ -187,8 +202,8 @@ run-accepted-inv budget stop x e =
 pub run-as-steps : (budget stop : ℕ) (x : Machine) → Lent (x .slots) (x .memory) → running-on budget stop x .a .number ≡ 0 → AsSteps budget stop x (running-on budget stop x .a .steps)
 run-as-steps budget stop x lent e =
     let inv = run-accepted-inv budget stop x e in
-    as-steps budget stop x (running budget 0 stop (x .slots) (x .memory) (x .journal) (x .mark)) (run-accepted (x .slots) (x .memory) budget (x .journal) (x .mark) stop e)
-    (ran budget stop budget 0 x (omega arith) (valid-when-accepted (x .slots) (x .memory) lent (inv .0) (inv .1)) (inv .3))
+    as-steps budget stop x (running budget 0 0 stop (x .slots) (x .memory) (x .journal) (x .mark)) (run-accepted (x .slots) (x .memory) budget (x .journal) (x .mark) stop e)
+    (ran budget stop budget 0 0 x (omega arith) (valid-when-accepted (x .slots) (x .memory) lent (inv .0) (inv .1)) (inv .3))
 
 -- ---- the journal that a run leaves
 steps-lent : (x : Machine) → Lent (x .slots) (x .memory) → stepping 0 0 x .a .number ≡ 0 → Lent (one x .slots) (one x .memory)

@@ -34,12 +34,12 @@ module _ (s m : List ℕ) (h : length s ≡ slot-limit) where
 abbrev TwentyRun : RunCall → Type 0
 TwentyRun c = length (c .s) ≡ slot-limit
 
-twenty-of-running : (k n stop : ℕ) (s m j : List ℕ) (mark : ℕ) → length s ≡ slot-limit → length (running k n stop s m j mark .s) ≡ slot-limit
+twenty-of-running : (k n c stop : ℕ) (s m j : List ℕ) (mark : ℕ) → length s ≡ slot-limit → length (running k n c stop s m j mark .s) ≡ slot-limit
 unfolding running step-taken
-twenty-of-running zero n stop s m j mark h = h
-twenty-of-running (suc k) n stop s m j mark h =
-    let c = step-taken s m 0 0 j mark in
-    let rest = twenty-of-running k (n + 1) stop (c .s) (c .m) (c .j) (c .a .mark) (twenty-of-one-step s m h 0 0) in
+twenty-of-running zero n c stop s m j mark h = h
+twenty-of-running (suc k) n c stop s m j mark h =
+    let t = step-taken s m 0 0 j mark in
+    let rest = twenty-of-running k (n + 1) (c + t .a .clocks) stop (t .s) (t .m) (t .j) (t .a .mark) (twenty-of-one-step s m h 0 0) in
     pick-cases TwentyRun (eqb (mode-of s) 2) h
     (pick-cases TwentyRun (eqb (mode-of s) 1) h
     (pick-cases TwentyRun (ltb (length j - mark) longest-record) h
@@ -49,7 +49,7 @@ twenty-of-run : (s m : List ℕ) (budget stop : ℕ) (j : List ℕ) (mark : ℕ)
     → length (run-call s m budget stop j mark .s) ≡ slot-limit
 unfolding run-call
 twenty-of-run s m budget stop j mark h =
-    pick-cases TwentyRun (eqb (run-number s m budget j mark) 0) (twenty-of-running budget 0 stop s m j mark h) h
+    pick-cases TwentyRun (eqb (run-number s m budget j mark) 0) (twenty-of-running budget 0 0 stop s m j mark h) h
 
 pub twenty-of-act : (c : Call) (x : Machine) → length (x .slots) ≡ slot-limit → length (act c x .slots) ≡ slot-limit
 unfolding act

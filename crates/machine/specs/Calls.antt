@@ -1,6 +1,6 @@
 -- Calls.antt - reset, step, run and undo: the complete answer of each call, and slots, memory and journal afterwards, for every input.
 -- A refusal's number is the lowest that the call can give; a refused call leaves everything as it was (a refused reset: the fixed state).
--- Laws: proofs/.  Source: [01 Calls and what they give back], [01 The journal].
+-- Laws: proofs/.  Source: [01 Calls and what they give back], [01 The journal], [K2].
 use Prim.Native.Nat.{ℕ, zero, suc, _+_, _-_, _%_}
 use mathlib.Core.Bool.{Bool, _&&_, not}
 use mathlib.Core.List.{List, [], _∷_}
@@ -11,7 +11,7 @@ use Rattle.bits.specs.Bits.{pick}
 use Rattle.bus.specs.Bus.{view-of, read-long}
 use Rattle.bank.specs.Bank.{long, pc-of, sr-of, mode-of}
 use Rattle.exception.specs.Exceptions.{fresh}
-use Rattle.step.specs.Steps.{one-step}
+use Rattle.step.specs.Steps.{one-step, step-clocks}
 use Rattle.numbers.specs.Number.{written}
 use Rattle.record.specs.Limits.{longest-record, valid-status}
 use Rattle.record.specs.Change.{step-record}
@@ -69,18 +69,20 @@ step-number s m level j mark =
     (pick (ltb (length j - mark) longest-record) 5
     (pick (eqb (mode-of s) Halted) 6 0)))))
 
--- one step by the definition, and the record that before and after determine, at the mark  [01 One step] [01 The journal]
+-- one step by the definition, the record that before and after determine, at the mark, and its clocks  [01 One step] [01 The journal] [K2]
 unfoldable pub step-taken : List ℕ → List ℕ → ℕ → ℕ → List ℕ → ℕ → StepCall
 step-taken s m level vector j mark =
     let t = one-step s m level vector in
     let b = step-record s (t .s) m (t .m) in
-    record { s = t .s; m = t .m; j = written j mark b; a = record { number = 0; event = t .event; mark = mark + length b } }
+    let answer : StepAnswer = record { number = 0; event = t .event; mark = mark + length b; clocks = step-clocks s m level vector } in
+    record { s = t .s; m = t .m; j = written j mark b; a = answer }
 
--- a step, or its refusal, which alters nothing  [01 Calls] [01 Calls, table]
+-- a step, or its refusal, which alters nothing and takes no clocks  [01 Calls] [01 Calls, table] [K2]
 unfoldable pub step-call : List ℕ → List ℕ → ℕ → ℕ → List ℕ → ℕ → StepCall
 step-call s m level vector j mark =
     let n = step-number s m level j mark in
-    pick (eqb n 0) (step-taken s m level vector j mark) (record { s = s; m = m; j = j; a = record { number = n; event = NoEvent; mark = mark } })
+    let refusal : StepAnswer = record { number = n; event = NoEvent; mark = mark; clocks = 0 } in
+    pick (eqb n 0) (step-taken s m level vector j mark) (record { s = s; m = m; j = j; a = refusal })
 
 -- ---- run
 
@@ -99,26 +101,28 @@ run-number s m budget j mark =
     (pick (ltb MostSteps budget) 3
     (pick (ltb (length j) mark) 4 0)))
 
--- a run ended by a reason, with n steps done  [01 Calls, Run]
-abbrev pub ended : ℕ → ℕ → List ℕ → List ℕ → List ℕ → ℕ → RunCall
-ended reason n s m j mark = record { s = s; m = m; j = j; a = record { number = 0; reason = reason; mark = mark; steps = n } }
+-- a run ended by a reason, with n steps of c clocks done  [01 Calls, Run] [K2]
+abbrev pub ended : ℕ → ℕ → ℕ → List ℕ → List ℕ → List ℕ → ℕ → RunCall
+ended reason n c s m j mark = record { s = s; m = m; j = j; a = record { number = 0; reason = reason; mark = mark; steps = n; clocks = c } }
 
--- what is left of a run, k of its budget, with n steps done: the reasons in their order, and a step with level 0  [01 Calls, Run]
-unfoldable pub running : ℕ → ℕ → ℕ → List ℕ → List ℕ → List ℕ → ℕ → RunCall
-running zero n stop s m j mark = ended 1 n s m j mark
-running (suc k) n stop s m j mark =
-    let c = step-taken s m 0 0 j mark in
-    let rest = running k (n + 1) stop (c .s) (c .m) (c .j) (c .a .mark) in
-    pick (eqb (mode-of s) Halted) (ended 2 n s m j mark)
-    (pick (eqb (mode-of s) Stopped) (ended 3 n s m j mark)
-    (pick (ltb (length j - mark) longest-record) (ended 4 n s m j mark)
-    (pick (eqb (pc-of s) stop) (ended 5 n s m j mark) rest)))
+-- what is left of a run, k of its budget, with n steps of c clocks done: the reasons in their order, and a step with level 0, whose
+-- clocks are added  [01 Calls, Run] [K2]
+unfoldable pub running : ℕ → ℕ → ℕ → ℕ → List ℕ → List ℕ → List ℕ → ℕ → RunCall
+running zero n c stop s m j mark = ended 1 n c s m j mark
+running (suc k) n c stop s m j mark =
+    let t = step-taken s m 0 0 j mark in
+    let rest = running k (n + 1) (c + t .a .clocks) stop (t .s) (t .m) (t .j) (t .a .mark) in
+    pick (eqb (mode-of s) Halted) (ended 2 n c s m j mark)
+    (pick (eqb (mode-of s) Stopped) (ended 3 n c s m j mark)
+    (pick (ltb (length j - mark) longest-record) (ended 4 n c s m j mark)
+    (pick (eqb (pc-of s) stop) (ended 5 n c s m j mark) rest)))
 
--- a run, or its refusal, which alters nothing  [01 Calls, Run] [01 Calls, table]
+-- a run, or its refusal, which alters nothing and takes no clocks  [01 Calls, Run] [01 Calls, table] [K2]
 unfoldable pub run-call : List ℕ → List ℕ → ℕ → ℕ → List ℕ → ℕ → RunCall
 run-call s m budget stop j mark =
     let n = run-number s m budget j mark in
-    pick (eqb n 0) (running budget 0 stop s m j mark) (record { s = s; m = m; j = j; a = record { number = n; reason = 0; mark = mark; steps = 0 } })
+    let refusal : RunAnswer = record { number = n; reason = 0; mark = mark; steps = 0; clocks = 0 } in
+    pick (eqb n 0) (running budget 0 0 stop s m j mark) (record { s = s; m = m; j = j; a = refusal })
 
 -- ---- undo
 

@@ -1,12 +1,12 @@
 -- History.antt - a mix of calls, each given what the last one returned; the steps that stand after it; those steps taken alone.
 -- Not here: what a call does (Calls.antt), what a step does (one-step of the crate step).
--- Laws: proofs/GoingBack.antt.  Source: [00 demand 3].
-use Prim.Native.Nat.{ℕ, _+_, _≤_}
+-- Laws: proofs/GoingBack.antt, proofs/ClockLaws.antt.  Source: [00 demand 3], [K2].
+use Prim.Native.Nat.{ℕ, zero, suc, _+_, _≤_}
 use mathlib.Core.List.{List, [], _∷_}
 use lib.ListN.{length}
 use lib.Dec.{eqb}
 use Rattle.bits.specs.Bits.{pick, iter}
-use Rattle.step.specs.Steps.{one-step}
+use Rattle.step.specs.Steps.{one-step, step-clocks}
 use Rattle.record.specs.Change.{step-record}
 use Rattle.machine.specs.Calls.{StepCall, RunCall, UndoCall, step-call, run-call, undo-call}
 
@@ -149,3 +149,8 @@ one-more r a =
 abbrev pub taken-alone : List Request → Seen → Seen
 taken-alone [] a = a
 taken-alone (r ∷ rs) a = one-more r (taken-alone rs a)
+
+-- the sum of the clocks of n steps with level 0, taken alone, one after the other  [K2]
+abbrev pub clocks-alone : ℕ → Seen → ℕ
+clocks-alone zero a = 0
+clocks-alone (suc n) a = step-clocks (a .slots) (a .memory) 0 0 + clocks-alone n (one-more (record { level = 0; vector = 0 }) a)

@@ -1,10 +1,11 @@
 // lib.rt - the calls of the machine: reset, step, run and undo, with their refusals. No call has a `requires`.
 // Means: specs/Calls.antt, specs/Promises.antt.  Laws: proofs/CallLaws.antt, proofs/LoopLaws.antt, and the theorems beside them.
-// Uses: codes, bits, bus, record, touch, undo, bank, exception, step.  Source: [01 Calls and what they give back], [01 The journal].
+// Uses: codes, bits, bus, record, touch, undo, bank, exception, step.  Source: [01 Calls and what they give back], [01 The journal], [K2].
 ghost use mathlib.Core.Path.{_≡_};
 ghost use mathlib.Core.Bool.{true};
 ghost use Prim.Native.Nat.{ℕ, _+_, _≤_, _<_, _^_};
 ghost use lib.ListN.{length, getD};
+ghost use Rattle.codes.specs.Codes.{MostSteps};
 ghost use Rattle.record.specs.Limits.{slot-limit, byte-limit, longest-record};
 ghost use Rattle.machine.specs.Calls.{memory-fits, state-fits, reset-slots, step-number, step-taken, run-number, running, undo-number};
 ghost use Rattle.machine.specs.Calls.{undo-answer};
@@ -18,21 +19,24 @@ use undo::Answer;
 // The answers are C's structs: the calls from C (crate ibezofanle) hand them on, and c/ibezofanle.h declares them. New members go to
 // the end.
 
-// A step's answer: the refusal's number or 0; the event: 0 nothing, 1 more than the vector that was taken first, 257 a halt; the mark.
+// A step's answer: the refusal's number or 0; the event: 0 nothing, 1 more than the vector that was taken first, 257 a halt; the mark;
+// and the clocks that the step took, 0 where it is refused.
 #[repr(C)]
 pub struct StepAnswer {
     pub number: u32,
     pub event: u32,
     pub mark: usize,
+    pub clocks: u32,
 }
 
-// A run's answer: the refusal's number or 0, the reason why it ended, the mark, and the number of steps done.
+// A run's answer: the refusal's number or 0, the reason why it ended, the mark, the number of steps done, and the sum of their clocks.
 #[repr(C)]
 pub struct RunAnswer {
     pub number: u32,
     pub reason: u32,
     pub mark: usize,
     pub steps: u32,
+    pub clocks: u32,
 }
 
 // An undo's answer: the refusal's number or 0, and the mark.
@@ -41,6 +45,9 @@ pub struct UndoAnswer {
     pub number: u32,
     pub mark: usize,
 }
+
+// The clocks of a call that is refused.
+pub const NO_CLOCKS: u32 = 0;
 
 fn memory_fits(memory: &[u8]) -> bool
     ensures { λ r. ⌜ r ≡ memory-fits (now (memory .entry)) ⌝ }
@@ -215,6 +222,7 @@ fn step_taken(
         number: 0,
         event: e.event,
         mark: next,
+        clocks: e.clocks,
     }
 }
 
@@ -246,6 +254,7 @@ pub fn step(
         number,
         event: codes::NO_EVENT,
         mark,
+        clocks: NO_CLOCKS,
     }
 }
 
@@ -272,7 +281,7 @@ fn run_number(slots: &[u32; SLOTS], memory: &[u8], budget: u32, journal: &[u8], 
     0
 }
 
-// The steps of a run: it ends at the first reason that holds.
+// The steps of a run: it ends at the first reason that holds. The budget is one that is not refused, so the sum of the clocks fits.
 fn running(
     slots: &mut [u32; SLOTS],
     memory: &mut [u8],
@@ -282,13 +291,14 @@ fn running(
     mark: usize,
     log: &mut [u64],
 ) -> RunAnswer
-    requires { ⌜ (memory-fits (now memory) ≡ true) × (mark ≤ length (now journal)) × (byte-limit ≤ length (now log)) × (state-fits (now slots) ≡ true) ⌝ }
-    ensures { λ _. ⌜ now (slots .exit) ≡ running budget 0 stop (now (slots .entry)) (now (memory .entry)) (now (journal .entry)) mark .s ⌝ }
-    ensures { λ _. ⌜ now (memory .exit) ≡ running budget 0 stop (now (slots .entry)) (now (memory .entry)) (now (journal .entry)) mark .m ⌝ }
-    ensures { λ _. ⌜ now (journal .exit) ≡ running budget 0 stop (now (slots .entry)) (now (memory .entry)) (now (journal .entry)) mark .j ⌝ }
-    ensures { λ a. ⌜ a ≡ running budget 0 stop (now (slots .entry)) (now (memory .entry)) (now (journal .entry)) mark .a ⌝ }
+    requires { ⌜ (memory-fits (now memory) ≡ true) × (mark ≤ length (now journal)) × (byte-limit ≤ length (now log)) × (state-fits (now slots) ≡ true) × (budget ≤ MostSteps) ⌝ }
+    ensures { λ _. ⌜ now (slots .exit) ≡ running budget 0 0 stop (now (slots .entry)) (now (memory .entry)) (now (journal .entry)) mark .s ⌝ }
+    ensures { λ _. ⌜ now (memory .exit) ≡ running budget 0 0 stop (now (slots .entry)) (now (memory .entry)) (now (journal .entry)) mark .m ⌝ }
+    ensures { λ _. ⌜ now (journal .exit) ≡ running budget 0 0 stop (now (slots .entry)) (now (memory .entry)) (now (journal .entry)) mark .j ⌝ }
+    ensures { λ a. ⌜ a ≡ running budget 0 0 stop (now (slots .entry)) (now (memory .entry)) (now (journal .entry)) mark .a ⌝ }
 {
     let mut n: u32 = 0;
+    let mut c: u32 = 0;
     let mut m = mark;
     let reason = loop {
         let spent = budget <= n;
@@ -314,12 +324,14 @@ fn running(
         let a = step_taken(slots, memory, 0, 0, journal, m, log);
         m = a.mark;
         n += 1;
+        c += a.clocks;
     };
     RunAnswer {
         number: 0,
         reason,
         mark: m,
         steps: n,
+        clocks: c,
     }
 }
 
@@ -344,6 +356,7 @@ pub fn run(
         reason: 0,
         mark,
         steps: 0,
+        clocks: NO_CLOCKS,
     }
 }
 

@@ -18,7 +18,7 @@ use Rattle.plan.specs.Plans.{Done}
 use Rattle.movem.specs.Movem.{block-room, block-put}
 use Rattle.bank.specs.Bank.{pc-of, sr-of, mode-of, tracing, bank, settle}
 use Rattle.exception.specs.Exceptions.{Stepped, fresh, supervisor-sr, exception, fault}
-use Rattle.execute.specs.Dispatch.{execute}
+use Rattle.execute.specs.Dispatch.{execute, own-clocks}
 use Rattle.step.specs.declared.Tried.{Tried}
 use Rattle.step.specs.Steps.{plan-with-flow, checked, Attempt, attempt, commit, trap-of, take-trap, traced, both, carry-out, conclude}
 use Rattle.step.specs.Steps.{instruction, interrupt-sr, interrupt, one-step}
@@ -52,10 +52,10 @@ module _ (v : View) (p q : Plan) (g : Flow) where
   checked-block t u e d = cc
 
 module _ (r t : List ℕ) (v : View) (f : Flow) (w : Fetched) (p q : Plan) (e : w ≡ next-word v f) where
-  pub attempt-is : record { r = t; p = p } ≡ execute r v (w .value) (w .flow) → q ≡ checked v p
-      → record { r = t; t = record { op = w .value; p = q } } ≡ attempt r v f
+  pub attempt-is : (n : ℕ) → record { r = t; p = p } ≡ execute r v (w .value) (w .flow) → n ≡ own-clocks r v (w .value) (w .flow) → q ≡ checked v p
+      → record { r = t; t = record { op = w .value; p = q; clocks = n } } ≡ attempt r v f
   unfolding attempt
-  attempt-is d h = cc (ap (λ (o : Done). o .r) d, ap (λ (o : Done). o .p) d)
+  attempt-is n d c h = cc (ap (λ (o : Done). o .r) d, ap (λ (o : Done). o .p) d)
 
 module _ (m r o : List ℕ) (p : Plan) where
   pub commit-one : ltb (p .write) 3 ≡ true → o ≡ put-sized m (p .at) (p .write) (p .value) → o ≡ commit m r p

@@ -1,20 +1,22 @@
 -- Steps.antt - one whole step: slots and memory before and a request give slots, memory and the event. It follows [01 One step].
--- Not modelled: prefetch, bus cycles, clocks, the edge of level 7.
--- Laws: proofs/StepLaws.antt.  Source: [003 4.1], [003 4.4.2], [003 4.4.8], [01 One step].
+-- Its clocks stand behind it: `step-clocks`. Not modelled: prefetch, bus cycles, the edge of level 7.
+-- Laws: proofs/StepLaws.antt, proofs/ClockLaws.antt, proofs/LargestLaws.antt.  Source: [003 4.1], [003 4.4.2], [003 4.4.8], [003 D], [01 One step], [K2].
 use Prim.Native.Nat.{ℕ, _+_, _*_, _%_, _/_}
 use mathlib.Core.Bool.{Bool, true, false, _&&_, _||_, not}
 use mathlib.Core.List.{List}
 use lib.Dec.{ltb, eqb}
-use Rattle.codes.specs.Codes.{Running, Mask, Supervisor, TopLevel, IllegalInstruction, PrivilegeViolation, TraceVector, Line1010, Line1111}
+use Rattle.codes.specs.Codes.{Running, Halted, Mask, Supervisor, TopLevel, IllegalInstruction, PrivilegeViolation, TraceVector, Line1010, Line1111}
 use Rattle.codes.specs.Codes.{NoVector, StopCode, NoEvent, HaltEvent, NoWrite}
 use Rattle.bits.specs.Bits.{pick, bit}
 use Rattle.bus.specs.declared.Flow.{Flow}
-use Rattle.bus.specs.Bus.{View, view-of, next-word, room, put-sized}
+use Rattle.bus.specs.Bus.{View, view-of, next-word, room, put-sized, fault-vector}
 use Rattle.plan.specs.declared.Plan.{Plan}
 use Rattle.movem.specs.Movem.{block-room, block-put}
 use Rattle.bank.specs.Bank.{pc-of, sr-of, mode-of, tracing, bank, settle}
 use Rattle.exception.specs.Exceptions.{Stepped, fresh, supervisor-sr, exception, fault}
-use Rattle.execute.specs.Dispatch.{execute}
+use Rattle.clocks.specs.Tables.{interrupt-line, stopped-clocks}
+use Rattle.clocks.specs.Clocks.{exception-clocks}
+use Rattle.execute.specs.Dispatch.{execute, own-clocks}
 use Rattle.step.specs.declared.Tried.{Tried}
 
 -- the plan with another flow  [ours]
@@ -32,12 +34,12 @@ pub record Attempt : Type 0 where
   pub r : List ℕ
   pub t : Tried
 
--- the operation word is read, then all that its instruction does but its write  [01 step 6]
+-- the operation word is read, then all that its instruction does but its write; and its clocks, if it takes no exception  [01 step 6] [K2]
 unfoldable pub attempt : List ℕ → View → Flow → Attempt
 attempt r v f =
     let w = next-word v f in
     let d = execute r v (w .value) (w .flow) in
-    record { r = d .r; t = record { op = w .value; p = checked v (d .p) } }
+    record { r = d .r; t = record { op = w .value; p = checked v (d .p); clocks = own-clocks r v (w .value) (w .flow) } }
 
 -- the write of a plan that has one  [01 step 6]
 unfoldable pub commit : List ℕ → List ℕ → Plan → List ℕ
@@ -90,3 +92,43 @@ unfoldable pub one-step : List ℕ → List ℕ → ℕ → ℕ → Stepped
 one-step s m level vector =
     pick (eqb level TopLevel || ltb (sr-of s / Mask % 8) level) (interrupt s m level vector)
     (pick (eqb (mode-of s) Running) (instruction s m) (record { s = s; m = m; event = NoEvent }))
+
+-- ---- clocks
+
+-- of an instruction that met no fault: its own, or those of its trap alone, which are 0 if it halts  [K2]
+unfoldable pub trap-clocks : Tried → ℕ → ℕ
+trap-clocks t event = pick (eqb (trap-of (t .p)) NoVector) (t .clocks) (pick (eqb event HaltEvent) 0 (exception-clocks (trap-of (t .p)) (t .op)))
+
+-- of the trace after it, which are 0 if it halts: the mode is that at the end  [K2]
+unfoldable pub trace-clocks : Tried → Bool → ℕ → ℕ
+trace-clocks t trace mode = pick (eqb (traced (trap-of (t .p)) (trace && not (eqb mode Halted)) NoEvent) NoVector) 0 (exception-clocks TraceVector (t .op))
+
+-- of an instruction by how it ended, the event and the mode then: with no event there was no exception; a fault counts alone, 0 if it halts. The
+-- event tells no trace that halts from another, since a trap's comes first; the mode does  [K2]
+unfoldable pub ended-clocks : Tried → Bool → ℕ → ℕ → ℕ
+ended-clocks t trace event mode =
+    pick (eqb event NoEvent) (t .clocks)
+    (pick (eqb (t .p .flow .bad) 0) (trap-clocks t event + trace-clocks t trace mode)
+    (pick (eqb event HaltEvent) 0 (exception-clocks (fault-vector (t .p .flow .bad)) (t .op))))
+
+-- the same from the slots and the memory before it  [K2]
+unfoldable pub concluded-clocks : List ℕ → List ℕ → List ℕ → Tried → ℕ
+concluded-clocks s m r t = let o = conclude s m r t in ended-clocks t (tracing (sr-of s)) (o .event) (mode-of (o .s))
+
+-- of one instruction  [K2]
+unfoldable pub instruction-clocks : List ℕ → List ℕ → ℕ
+instruction-clocks s m = let a = attempt (bank s) (view-of m) (fresh (pc-of s) (sr-of s)) in concluded-clocks s m (a .r) (a .t)
+
+-- of an interrupt, 0 if it halts  [003 D-14] [K2]
+unfoldable pub interrupt-clocks : ℕ → ℕ
+interrupt-clocks event = pick (eqb event HaltEvent) 0 interrupt-line
+
+-- of a whole step: an interrupt that is taken, an instruction, or a machine that does not run  [K2]
+unfoldable pub step-clocks : List ℕ → List ℕ → ℕ → ℕ → ℕ
+step-clocks s m level vector =
+    pick (eqb level TopLevel || ltb (sr-of s / Mask % 8) level) (interrupt-clocks (interrupt s m level vector .event))
+    (pick (eqb (mode-of s) Running) (instruction-clocks s m) stopped-clocks)
+
+-- the largest value of a step: DIVS of a word in memory by an absolute long address, traced  [K2]
+abbrev pub most-clocks : ℕ
+most-clocks = 204

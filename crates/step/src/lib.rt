@@ -1,14 +1,15 @@
-// lib.rt - one whole step: the attempt of an instruction, its writes, its trap, trace, interrupts, a stopped machine.
-// Means: specs/Steps.antt.  Laws: proofs/StepLaws.antt, proofs/NotedLaws.antt.
-// Uses: codes, bits, bus, plan, movem, store, touch, bank, exception, execute.  Source: [003 4.1], [003 4.4.2], [003 4.4.8], [01 One step].
+// lib.rt - one whole step: the attempt of an instruction, its writes, its trap, trace, interrupts, a stopped machine; its clocks.
+// Means: specs/Steps.antt.  Laws: proofs/StepLaws.antt, proofs/NotedLaws.antt, proofs/ClockLaws.antt.
+// Uses: codes, bits, bus, plan, clocks, movem, store, touch, bank, exception, execute.  Source: [003 4.1], [003 4.4.2], [003 4.4.8], [01 One step], [K2].
 ghost use mathlib.Core.Path.{_≡_};
-ghost use Prim.Native.Nat.{ℕ, _+_, _≤_};
+ghost use Prim.Native.Nat.{ℕ, _+_, _≤_, _<_};
 ghost use lib.ListN.{length};
 ghost use Rattle.bank.specs.Bank.{settle};
 ghost use Rattle.bus.specs.Bus.{view-of};
 ghost use Rattle.touch.specs.Touch.{LogOk, Noted};
 ghost use Rattle.step.specs.Steps.{plan-with-flow, checked, Attempt, attempt, commit, trap-of, take-trap, traced, both, carry-out, conclude};
-ghost use Rattle.step.specs.Steps.{instruction, interrupt-sr, interrupt, one-step};
+ghost use Rattle.step.specs.Steps.{instruction, interrupt-sr, interrupt, one-step, trap-clocks, trace-clocks, ended-clocks};
+ghost use Rattle.step.specs.Steps.{concluded-clocks, instruction-clocks, interrupt-clocks, step-clocks};
 use bus::Flow;
 use codes::SLOTS;
 use exception::Ended;
@@ -42,21 +43,35 @@ fn checked(mem: &[u8], p: Plan) -> Plan
     plan_with_flow(p, movem::block_room(mem, p))
 }
 
-// An operation word, and what is to be done for it.
+// An operation word, what is to be done for it, and the clocks of its instruction if it takes no exception.
 pub struct Tried {
     pub op: u32,
     pub p: Plan,
+    pub clocks: u32,
+}
+
+// How a step ended: the entries in the log, the event and the clocks.
+pub struct Taken {
+    pub n: usize,
+    pub event: u32,
+    pub clocks: u32,
 }
 
 // An instruction, up to its writes: all that it sees are the registers, PC, SR and the view of memory.
 fn attempt(r: &mut [u32; SLOTS], mem: &[u8], f: Flow) -> Tried
     ensures { λ t. ⌜ record { r = now (r .exit); t = t } ≡ attempt (now (r .entry)) (view-of (now (mem .entry))) f ⌝ }
+    ensures { λ t. ⌜ t .clocks < 512 ⌝ }
 {
     let w = bus::next_word(mem, f);
     let g = w.flow;
-    let p = execute::execute(r, mem, w.value, g);
+    let t = execute::execute(r, mem, w.value, g);
+    let p = t.plan;
     let q = checked(mem, p);
-    Tried { op: w.value, p: q }
+    Tried {
+        op: w.value,
+        p: q,
+        clocks: t.clocks,
+    }
 }
 
 // The write of a plan that has one.
@@ -200,25 +215,108 @@ fn conclude(
     exception::fault(r, mem, log, 0, f.bad, t.op)
 }
 
+// The clocks of an instruction that met no fault: its own, or its trap's, none if that halts.
+fn trap_clocks(t: Tried, event: u32) -> u32
+    requires { ⌜ t .clocks < 512 ⌝ }
+    ensures { λ n. ⌜ n ≡ trap-clocks t event ⌝ }
+    ensures { λ n. ⌜ n < 512 ⌝ }
+{
+    let p = t.p;
+    let vec = trap_of(p);
+    let none = vec == codes::NO_VECTOR;
+    if none {
+        return t.clocks;
+    }
+    let halted = event == codes::HALT_EVENT;
+    if halted {
+        return 0;
+    }
+    clocks::exception_clocks(vec, t.op)
+}
+
+// The clocks of the trace after it, none if that halts.
+fn trace_clocks(t: Tried, trace: bool, mode: u32) -> u32
+    ensures { λ n. ⌜ n ≡ trace-clocks t trace mode ⌝ }
+    ensures { λ n. ⌜ n < 512 ⌝ }
+{
+    let p = t.p;
+    let vec = trap_of(p);
+    let halted = mode == codes::HALTED;
+    let none = traced(vec, trace & !halted, codes::NO_EVENT) == codes::NO_VECTOR;
+    if none {
+        return 0;
+    }
+    clocks::exception_clocks(codes::TRACE_VECTOR, t.op)
+}
+
+// The clocks of an instruction by how it ended.
+fn ended_clocks(t: Tried, trace: bool, event: u32, mode: u32) -> u32
+    requires { ⌜ t .clocks < 512 ⌝ }
+    ensures { λ n. ⌜ n ≡ ended-clocks t trace event mode ⌝ }
+{
+    let quiet = event == codes::NO_EVENT;
+    if quiet {
+        return t.clocks;
+    }
+    let p = t.p;
+    let f = p.flow;
+    let fine = f.bad == 0;
+    if fine {
+        return trap_clocks(t, event) + trace_clocks(t, trace, mode);
+    }
+    let halted = event == codes::HALT_EVENT;
+    if halted {
+        return 0;
+    }
+    clocks::exception_clocks(f.bad % 4, t.op)
+}
+
+// The end of an instruction, with its clocks.
+fn concluded(
+    r: &mut [u32; SLOTS],
+    s: &[u32; SLOTS],
+    mem: &mut [u8],
+    log: &mut [u64],
+    t: Tried,
+) -> Taken
+    requires { ⌜ LogOk (now mem) (now log) 0 × (70 ≤ length (now log)) ⌝ }
+    requires { ⌜ t .clocks < 512 ⌝ }
+    ensures { λ _. ⌜ now (r .exit) ≡ conclude (now (s .entry)) (now (mem .entry)) (now (r .entry)) t .s ⌝ }
+    ensures { λ _. ⌜ now (mem .exit) ≡ conclude (now (s .entry)) (now (mem .entry)) (now (r .entry)) t .m ⌝ }
+    ensures { λ e. ⌜ e .event ≡ conclude (now (s .entry)) (now (mem .entry)) (now (r .entry)) t .event ⌝ }
+    ensures { λ e. ⌜ e .clocks ≡ concluded-clocks (now (s .entry)) (now (mem .entry)) (now (r .entry)) t ⌝ }
+    ensures { λ e. ⌜ Noted (now (mem .entry)) (now (log .entry)) 0 70 (now (mem .exit)) (now (log .exit)) (e .n) ⌝ }
+{
+    let trace = bank::tracing(s[codes::SR]);
+    let e = conclude(r, s, mem, log, t);
+    let c = ended_clocks(t, trace, e.event, r[codes::MODE]);
+    Taken {
+        n: e.n,
+        event: e.event,
+        clocks: c,
+    }
+}
+
 // One instruction. The slots before it are lent a second time, as they were.
 fn instruction(
     s: &mut [u32; SLOTS],
     before: &[u32; SLOTS],
     mem: &mut [u8],
     log: &mut [u64],
-) -> Ended
+) -> Taken
     requires { ⌜ LogOk (now mem) (now log) 0 × (70 ≤ length (now log)) ⌝ }
     requires { ⌜ now before ≡ now s ⌝ }
     ensures { λ _. ⌜ now (s .exit) ≡ instruction (now (s .entry)) (now (mem .entry)) .s ⌝ }
     ensures { λ _. ⌜ now (mem .exit) ≡ instruction (now (s .entry)) (now (mem .entry)) .m ⌝ }
     ensures { λ e. ⌜ e .event ≡ instruction (now (s .entry)) (now (mem .entry)) .event ⌝ }
+    ensures { λ e. ⌜ e .clocks ≡ instruction-clocks (now (s .entry)) (now (mem .entry)) ⌝ }
     ensures { λ e. ⌜ Noted (now (mem .entry)) (now (log .entry)) 0 70 (now (mem .exit)) (now (log .exit)) (e .n) ⌝ }
 {
     let sr = s[codes::SR];
     let pc = s[codes::PC];
     bank::bank(s);
     let t = attempt(s, mem, exception::fresh(pc, sr));
-    conclude(s, before, mem, log, t)
+    concluded(s, before, mem, log, t)
 }
 
 // An interrupt: the mask becomes its level.
@@ -245,6 +343,17 @@ fn interrupt_sr(sr: u32, level: u32) -> u32
     codes::SUPERVISOR + level % 8 * codes::MASK + sr % codes::MASK
 }
 
+// The clocks of an interrupt, none if it halts.
+fn interrupt_clocks(event: u32) -> u32
+    ensures { λ n. ⌜ n ≡ interrupt-clocks event ⌝ }
+{
+    let halted = event == codes::HALT_EVENT;
+    if halted {
+        return 0;
+    }
+    clocks::INTERRUPT_LINE
+}
+
 // One whole step with its request, the slots before it lent a second time: an interrupt that is taken, or nothing where the machine is
 // stopped, or one instruction.
 pub fn one_step(
@@ -254,25 +363,32 @@ pub fn one_step(
     log: &mut [u64],
     level: u32,
     vector: u32,
-) -> Ended
+) -> Taken
     requires { ⌜ LogOk (now mem) (now log) 0 × (70 ≤ length (now log)) ⌝ }
     requires { ⌜ now before ≡ now s ⌝ }
     ensures { λ _. ⌜ now (s .exit) ≡ one-step (now (s .entry)) (now (mem .entry)) level vector .s ⌝ }
     ensures { λ _. ⌜ now (mem .exit) ≡ one-step (now (s .entry)) (now (mem .entry)) level vector .m ⌝ }
     ensures { λ e. ⌜ e .event ≡ one-step (now (s .entry)) (now (mem .entry)) level vector .event ⌝ }
     ensures { λ e. ⌜ Noted (now (mem .entry)) (now (log .entry)) 0 70 (now (mem .exit)) (now (log .exit)) (e .n) ⌝ }
+    ensures { λ e. ⌜ e .clocks ≡ step-clocks (now (s .entry)) (now (mem .entry)) level vector ⌝ }
 {
     let mask = s[codes::SR] / codes::MASK % 8;
     let taken = (level == codes::TOP_LEVEL) | (mask < level);
     if taken {
-        return interrupt(s, mem, log, level, vector);
+        let e = interrupt(s, mem, log, level, vector);
+        return Taken {
+            n: e.n,
+            event: e.event,
+            clocks: interrupt_clocks(e.event),
+        };
     }
     let running = s[codes::MODE] == codes::RUNNING;
     if running {
         return instruction(s, before, mem, log);
     }
-    Ended {
+    Taken {
         n: 0,
         event: codes::NO_EVENT,
+        clocks: clocks::STOPPED_CLOCKS,
     }
 }

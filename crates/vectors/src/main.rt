@@ -8,7 +8,7 @@ use cases::trying::SKIPPED;
 use libc::STDOUT_FILENO;
 
 // how many of the cases that differ are named
-const NAMED: u64 = 100;
+const NAMED: u64 = 200;
 
 struct Tally {
     agree: u64,
@@ -43,6 +43,7 @@ fn write_reason(found: u32) -> bool {
         cases::trying::STEP_MEMORY => io::write_all(STDOUT_FILENO, b": memory after the step\n"),
         cases::trying::STEP_MARK => io::write_all(STDOUT_FILENO, b": mark after the step\n"),
         cases::trying::STEP_JOURNAL => io::write_all(STDOUT_FILENO, b": journal after the step\n"),
+        cases::trying::STEP_CLOCKS => io::write_all(STDOUT_FILENO, b": clocks of the step\n"),
         cases::trying::UNDO_NUMBER => io::write_all(STDOUT_FILENO, b": number after the undo\n"),
         cases::trying::UNDO_SLOTS => io::write_all(STDOUT_FILENO, b": slots after the undo\n"),
         cases::trying::UNDO_MEMORY => io::write_all(STDOUT_FILENO, b": memory after the undo\n"),

@@ -1,21 +1,21 @@
 use Prim.Native.Nat.{_-_}
 use native.Mathlib.Omega.{arith}
 use borrow.Author.Tests.{leb-false}
-use Rattle.machine.proofs.LoopLaws.{Going, going-start, going-again, going-requires}
+use Rattle.machine.proofs.LoopLaws.{Going, going-start, going-again, going-requires, going-sum}
 use Rattle.machine.proofs.LoopLaws.{going-spent, going-halted, going-stopped, going-full, going-there}
 use borrow.Author.Needs.{needs}
 use Rattle.machine.proofs.running.Statement.{statement}
 use Rattle.machine.proofs.running.Tie as tie
 
 abbrev Inv-loop : tie.InvT-loop
-Inv-loop slots₀ memory₀ budget stop journal₀ mark log₀ n₀ m₀ slots memory journal log n m =
-    Going budget stop slots₀ memory₀ journal₀ mark log₀ slots memory journal m log n
+Inv-loop slots₀ memory₀ budget stop journal₀ mark log₀ n₀ c₀ m₀ slots memory journal log n c m =
+    Going budget stop slots₀ memory₀ journal₀ mark log₀ slots memory journal m log n c
 
 abbrev μ-loop : tie.MeasureT-loop
-μ-loop slots₀ memory₀ budget stop journal₀ mark log₀ n₀ m₀ slots memory journal log n m = budget - n
+μ-loop slots₀ memory₀ budget stop journal₀ mark log₀ n₀ c₀ m₀ slots memory journal log n c m = budget - n
 
 loop-holds : tie.Need-loop-holds Inv-loop μ-loop
-loop-holds c = let z = c .before .before .before in going-start _ _ _ _ _ _ _ (z .pre .0) (z .pre .1) (z .pre .2) (z .pre .3)
+loop-holds c = let z = c .before .before .before in going-start _ _ _ _ _ _ _ (z .pre .0) (z .pre .1) (z .pre .2) (z .pre .3) (z .pre .4)
 
 sub-short : tie.Need-sub-short Inv-loop μ-loop
 sub-short c = let i = c .before .before .before .before .before .loop .inv in let h = i .inside in omega arith
@@ -61,6 +61,7 @@ running-spec =
     (λ c. search needs)
     step-taken-requires
     (λ c. omega (arith, leb-false))
+    (λ c. record { fits = search going-sum })
     (λ c. omega (arith, leb-false))
     (λ c. search going-again)
     (λ c. search needs)

@@ -1,4 +1,5 @@
 use Rattle.step.proofs.StepLaws.{attempt-is}
+use Rattle.step.proofs.LargestLaws.{own-small}
 use borrow.Author.Needs.{needs}
 use Rattle.step.proofs.attempt.Statement.{statement}
 use Rattle.step.proofs.attempt.Tie as tie
@@ -6,4 +7,4 @@ use Rattle.step.proofs.attempt.Tie as tie
 pub attempt-spec : {M : Type 1} → statement M
 attempt-spec =
     tie.close (tie.spec
-    (λ c κs. search needs) (λ c κs. search needs) (λ c κs. search needs) (λ c. search attempt-is))
+    (λ c κs. search needs) (λ c κs. search needs) (λ c κs. search needs) (λ c. (search attempt-is, search own-small)))

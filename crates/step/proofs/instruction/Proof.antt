@@ -1,3 +1,4 @@
+use Rattle.step.proofs.ClockLaws.{instruction-clocks-is}
 use Rattle.step.proofs.StepLaws.{event-by, instruction-is, memory-by, slots-by}
 use borrow.Author.Needs.{needs}
 use Rattle.step.proofs.instruction.Statement.{statement}
@@ -8,4 +9,4 @@ instruction-spec =
     tie.close (tie.spec
     (λ c. search needs) (λ c. search needs) (λ c κs. search needs) (λ c κs. search needs) (λ c κs. search needs) (λ c κs. search needs)
     (λ c. search needs) (λ c. search needs)
-    (λ c. (search (slots-by, instruction-is), (search (memory-by, instruction-is), (search (event-by, instruction-is), search needs)))))
+    (λ c. (search (slots-by, instruction-is), (search (memory-by, instruction-is), (search (event-by, instruction-is), (search instruction-clocks-is, search needs))))))
