@@ -75,22 +75,24 @@ moved op =
     let long = eqb (op / 4096) 2 in
     operand-clocks op long + getD destination-table (place (upper-mode op) (upper-register op) * 2 + bit long) 0
 
--- LEA and PEA; JMP and JSR: a, and the time of the mode  [003 D-10]
+-- LEA and PEA: a, and the time of the mode  [003 D-10]
 unfoldable pub located : ℕ → ℕ → ℕ
 located a op = a + getD lea-table (place-of op) 0
 
-unfoldable pub jumped : ℕ → ℕ → ℕ  -- [003 D-10]
+-- JMP and JSR: the same  [003 D-10]
+unfoldable pub jumped : ℕ → ℕ → ℕ
 jumped a op = a + getD jmp-table (place-of op) 0
 
 -- MOVEM's registers: a for each word, b for each long; their number is that of the ones in the list  [003 D-10]
 unfoldable pub listed : ℕ → ℕ → View → ℕ → Flow → ℕ
 listed a b v op f = onesIn 16 (next-word v f .value % 65536) * by-long a b (eqb (long-bit op) 1)
 
--- MOVEM to memory, and from it  [003 D-10]
+-- MOVEM to memory: the time of the mode, and its registers'  [003 D-10]
 unfoldable pub stored : ℕ → ℕ → View → ℕ → Flow → ℕ
 stored a b v op f = getD store-table (place-of op) 0 + listed a b v op f
 
-unfoldable pub loaded : ℕ → ℕ → View → ℕ → Flow → ℕ  -- [003 D-10]
+-- MOVEM from memory: the same  [003 D-10]
+unfoldable pub loaded : ℕ → ℕ → View → ℕ → Flow → ℕ
 loaded a b v op f = getD load-table (place-of op) 0 + listed a b v op f
 
 -- the word that MULS and MULU take from their source  [003 D-4]
@@ -121,11 +123,12 @@ bit-clocks a op = a + getD bit-table (size-field op * 2 + bit (ltb 1 (place-of o
 unfoldable pub branched : ℕ → ℕ → ℕ → ℕ → Flow → ℕ
 branched a b c op f = pick (condition (f .sr) (condition-field op)) a (pick (eqb (op % 256) 0) c b)
 
--- DBcc: a where the condition holds; else b where it branches, c where the count was 0  [003 D-9]
+-- DBcc: a where the condition holds; else b where it branches, c where the count is spent  [003 D-9]
 unfoldable pub counted-by : ℕ → ℕ → ℕ → Bool → ℕ → Flow → ℕ
 counted-by a b c spent op f = pick (condition (f .sr) (condition-field op)) a (pick spent c b)
 
-unfoldable pub counted : ℕ → ℕ → ℕ → List ℕ → ℕ → Flow → ℕ  -- [003 D-9]
+-- it is spent where it was 0  [003 D-9]
+unfoldable pub counted : ℕ → ℕ → ℕ → List ℕ → ℕ → Flow → ℕ
 counted a b c r op f = counted-by a b c (eqb (get r (ea-register op) % 65536) 0) op f
 
 -- Scc of a register: a where the condition does not hold, b where it does; of memory c  [003 D-6]
