@@ -3,8 +3,8 @@ use Rattle.clocks.specs.Lines.{time, clocks}
 use Rattle.execute.specs.Dispatch.{refused-kind}
 use Rattle.execute.proofs.ClockLaws.{arm-clocks, arm-plan, last-clocks, last-plan}
 use Rattle.execute.proofs.DispatchLaws.{kept}
-use Rattle.execute.proofs.refused_kind.Statement.{statement}
-use Rattle.execute.proofs.refused_kind.Tie as tie
+use Rattle.execute.proofs.families.refused_kind.Statement.{statement}
+use Rattle.execute.proofs.families.refused_kind.Tie as tie
 
 pub refused-kind-spec : {M : Type 1} → statement M
 unfolding refused-kind clocks time

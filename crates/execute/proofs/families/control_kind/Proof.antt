@@ -3,8 +3,8 @@ use Rattle.clocks.specs.Lines.{time, clocks}
 use Rattle.execute.specs.Dispatch.{control-kind}
 use Rattle.execute.proofs.ClockLaws.{arm-clocks, arm-plan, last-clocks, last-plan}
 use Rattle.execute.proofs.DispatchLaws.{kept}
-use Rattle.execute.proofs.control_kind.Statement.{statement}
-use Rattle.execute.proofs.control_kind.Tie as tie
+use Rattle.execute.proofs.families.control_kind.Statement.{statement}
+use Rattle.execute.proofs.families.control_kind.Tie as tie
 
 pub control-kind-spec : {M : Type 1} → statement M
 unfolding control-kind clocks time

@@ -3,8 +3,8 @@ use Rattle.clocks.specs.Lines.{time, clocks}
 use Rattle.execute.specs.Dispatch.{system-kind}
 use Rattle.execute.proofs.ClockLaws.{arm-clocks, arm-plan, last-plan, past-clocks}
 use Rattle.execute.proofs.DispatchLaws.{kept}
-use Rattle.execute.proofs.system_kind.Statement.{statement}
-use Rattle.execute.proofs.system_kind.Tie as tie
+use Rattle.execute.proofs.families.system_kind.Statement.{statement}
+use Rattle.execute.proofs.families.system_kind.Tie as tie
 
 pub system-kind-spec : {M : Type 1} → statement M
 unfolding system-kind clocks time

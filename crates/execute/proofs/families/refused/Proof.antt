@@ -1,7 +1,7 @@
 use Rattle.execute.proofs.DispatchLaws.{refused-is}
 use borrow.Author.Needs.{needs}
-use Rattle.execute.proofs.refused.Statement.{statement}
-use Rattle.execute.proofs.refused.Tie as tie
+use Rattle.execute.proofs.families.refused.Statement.{statement}
+use Rattle.execute.proofs.families.refused.Tie as tie
 
 pub refused-spec : {M : Type 1} → statement M
 refused-spec =

@@ -2,8 +2,8 @@ use borrow.Author.Needs.{needs}
 use Rattle.clocks.specs.Lines.{time, clocks}
 use Rattle.execute.specs.Dispatch.{integer-kind}
 use Rattle.execute.proofs.ClockLaws.{arm-clocks, arm-plan, last-clocks, last-plan}
-use Rattle.execute.proofs.integer_kind.Statement.{statement}
-use Rattle.execute.proofs.integer_kind.Tie as tie
+use Rattle.execute.proofs.families.integer_kind.Statement.{statement}
+use Rattle.execute.proofs.families.integer_kind.Tie as tie
 
 pub integer-kind-spec : {M : Type 1} → statement M
 unfolding integer-kind clocks time
