@@ -1,5 +1,5 @@
 -- ClockLaws.antt - every row of specs/ClockRows.antt holds, by computing; so the largest value of a step is reached.
--- clock-rows-hold, most-clocks-reached.
+-- clock-rows-hold.
 -- Uses: step and all below it.
 use Prim.Native.Nat.{ℕ}
 use mathlib.Core.Path.{_≡_, refl}
@@ -26,7 +26,6 @@ use Rattle.execute.specs.Dispatch as Dispatch
 use Rattle.clocks.specs.Clocks as Clocks
 use Rattle.clocks.specs.Lines as Lines
 use Rattle.step.specs.Steps as Steps
-use Rattle.examples.specs.Paper.{slots}
 use Rattle.examples.specs.ClockRows.{Row, memory-of, clock-rows}
 
 pub clock-rows-hold : map (λ (e : Row). Steps.step-clocks (e .slots) (memory-of (e .words)) (e .level) 24) clock-rows ≡ map (λ (e : Row). e .clocks) clock-rows

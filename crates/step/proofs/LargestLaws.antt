@@ -1,5 +1,5 @@
 -- LargestLaws.antt - no step takes more than 204 clocks: 170 of an instruction and 34 of a trace.
--- own-bound, own-small; largest-step: the theorem. That 204 is reached is an example, 204-reached of crate examples.
+-- own-bound, own-small; largest-step: the theorem. That 204 is reached is the last row of clock-rows-hold, of crate examples.
 -- Uses: bits, bus, clocks, bank, exception, execute.
 use Prim.Native.Nat.{ℕ, _+_, _*_, _%_, _/_, _≤_, _<_}
 use native.Mathlib.Omega.{arith}
