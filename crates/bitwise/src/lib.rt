@@ -10,7 +10,7 @@ use codes::SLOTS;
 use plan::Plan;
 
 // How many places: three bits of the operation word, or the data register that they name.
-fn shift_count(r: &[u32; SLOTS], op: u32) -> u32
+pub fn shift_count(r: &[u32; SLOTS], op: u32) -> u32
     ensures { λ n. ⌜ n ≡ shift-count (now (r .entry)) op ⌝ }
 {
     let held = op / 32 % 2 == 1;

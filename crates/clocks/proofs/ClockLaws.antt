@@ -1,30 +1,29 @@
 -- ClockLaws.antt - one law for each return of the functions of clocks.
 -- place-..; operand-is; general-register, -immediate, -memory; NAME-is for each rule; ones-is: the kit's count of ones is the definition's.
--- Uses: bits, flags, bus, operand, plan.
+-- Uses: bits, flags, bus, operand, bitwise.
 use Prim.Native.Nat.{ℕ, zero, suc, _+_, _*_, _%_, _/_, _^_, _<_, _≤_}
 use native.Mathlib.Omega.{arith}
 use native.Mathlib.Nat.{mul-le-mul-right, pow-suc}
 use mir.Syntax.{w32}
 use mir.Val.{Fits}
-use mathlib.Core.Path.{_≡_, refl, sym, ap, _∙_}
+use mathlib.Core.Path.{_≡_, ap}
 use mathlib.Core.Bool.{Bool, true, false}
 use mathlib.Core.List.{List}
 use lib.ListN.{getD}
 use lib.Dec.{ltb, eqb}
 use lib.Bits.{bitXor, xor-lt}
 use lib.Count.{ones, onesIn, ones-step, ones-le}
-use Rattle.bits.specs.Bits.{pick, bit}
-use Rattle.bits.proofs.BitsLaws.{bit-bound}
+use Rattle.bits.specs.Bits.{bit}
 use Rattle.flags.specs.Flags.{condition}
 use Rattle.bus.specs.declared.Flow.{Flow}
 use Rattle.bus.specs.declared.Fetched.{Fetched}
 use Rattle.bus.specs.Bus.{View, next-word}
 use Rattle.operand.specs.declared.Operand.{Operand}
 use Rattle.operand.specs.Operands.{get, locate, load}
-use Rattle.plan.specs.Plans.{quick}
+use Rattle.bitwise.specs.Bitwise.{shift-count}
 use Rattle.clocks.specs.Tables.{operand-table, lea-table, jmp-table, store-table, load-table, bit-table, exception-table}
-use Rattle.clocks.specs.Clocks.{place, place-of, operand-clocks, direct, by-long, general, sized, addressed, narrow, paired, peripheral}
-use Rattle.clocks.specs.Clocks.{located, jumped, listed, stored, loaded, factor, signed, unsigned, shift-count, shifted, bit-clocks}
+use Rattle.clocks.specs.Clocks.{place, place-of, operand-clocks, by-long, general, sized, addressed, narrow, paired, peripheral}
+use Rattle.clocks.specs.Clocks.{located, jumped, listed, stored, loaded, factor, signed, unsigned, shifted, bit-clocks}
 use Rattle.clocks.specs.Clocks.{branched, counted-by, counted, conditional, exception-clocks}
 use Rattle.clocks.proofs.FieldLaws.{register-time, direct-register, direct-immediate, direct-memory}
 
@@ -162,23 +161,9 @@ module _ (r : List ℕ) (v : View) (op : ℕ) (f : Flow) where
       let l : bitXor y (y * 2 % 65536) < 65536 = xor-lt 16 y (y * 2 % 65536) (omega (arith, z)) (omega arith) in
       let m : bitXor y (y * 2 % 65536) % 65536 ≡ bitXor y (y * 2 % 65536) = omega (arith, l) in cc
 
-module _ (r : List ℕ) (op : ℕ) where
-  pub shift-held : (x : ℕ) → eqb (op / 32 % 2) 1 ≡ true → x ≡ get r (op / 512 % 8) → x % 64 ≡ shift-count r op
-  unfolding shift-count
-  shift-held x h e = cc
-
-  pub shift-quick : (x : ℕ) → eqb (op / 32 % 2) 1 ≡ false → x ≡ quick op → x ≡ shift-count r op
-  unfolding shift-count
-  shift-quick x h e = cc
-
-  pub shifted-is : (a b x w n : ℕ) → x ≡ by-long a b (eqb (op / 128 % 2) 1) → w ≡ x → n ≡ shift-count r op → w + n * 2 ≡ shifted a b r op
-  unfolding shifted
-  shifted-is a b x w n e1 e2 e3 = cc
-
--- 0 means 8
-pub quick-small : (op x : ℕ) → x ≡ quick op → x < 64
-unfolding quick
-quick-small op x e = let b = bit-bound (eqb (op / 512 % 8) 0) in omega (arith, e, b)
+pub shifted-is : (r : List ℕ) (op a b x w n : ℕ) → x ≡ by-long a b (eqb (op / 128 % 2) 1) → w ≡ x → n ≡ shift-count r op → w + n % 64 * 2 ≡ shifted a b r op
+unfolding shifted
+shifted-is r op a b x w n e1 e2 e3 = cc
 
 -- ---- conditions
 

@@ -1,7 +1,7 @@
 -- FieldLaws.antt - laws that go by the six bits of an effective address: a test of each of the 64 says them of every operation word.
 -- all-below, at-below: such a test; place-of-field; direct-field; register-time; direct-register, -immediate, -memory.
 -- Uses: bits.
-use Prim.Native.Nat.{ℕ, zero, suc, _+_, _*_, _%_, _/_, _<_, _≤_}
+use Prim.Native.Nat.{ℕ, zero, suc, _+_, _*_, _%_, _/_, _<_}
 use native.Mathlib.Omega.{arith}
 use native.Mathlib.Nat.{eq-or-lt-of-le, le-of-suc-le-suc}
 use mathlib.Core.Path.{_≡_, refl, sym, ap, _∙_, subst}
@@ -10,7 +10,7 @@ use mathlib.Core.Bool.{Bool, true, false, _&&_, _||_, not}
 use lib.ListN.{getD}
 use lib.Dec.{ltb, eqb}
 use borrow.Author.Tests.{eqb-true, eqb-false, lt-ltb, le-ltb}
-use Rattle.bits.specs.Bits.{pick, bit}
+use Rattle.bits.specs.Bits.{bit}
 use Rattle.bits.proofs.BitsLaws.{and-left, and-right}
 use Rattle.clocks.specs.Tables.{operand-table}
 use Rattle.clocks.specs.Clocks.{place, place-of, operand-clocks, direct}

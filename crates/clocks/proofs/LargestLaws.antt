@@ -1,7 +1,7 @@
 -- LargestLaws.antt - no instruction takes more than 170 clocks, and no exception of an instruction more than 56.
 -- operand-bound, short-bound: an effective address; within: a test of a line's times by its rule; clocks-bound, exception-bound: the theorems.
--- Uses: bits, flags, bus, operand, plan.
-use Prim.Native.Nat.{ℕ, zero, suc, _+_, _*_, _%_, _/_, _<_, _≤_}
+-- Uses: bits, flags, bus, operand.
+use Prim.Native.Nat.{ℕ, zero, suc, _+_, _*_, _%_, _/_, _≤_}
 use native.Mathlib.Omega.{arith}
 use native.Mathlib.Nat.{mul-le-mul-left, mul-le-mul-right}
 use mathlib.Core.Path.{_≡_, refl, sym, subst}
@@ -13,15 +13,14 @@ use lib.Bits.{bitXor}
 use lib.Count.{onesIn}
 use borrow.Author.Tests.{leb-true, eqb-true}
 use Rattle.bits.specs.Bits.{pick, bit}
-use Rattle.bits.proofs.BitsLaws.{and-left, and-right, bit-bound}
+use Rattle.bits.proofs.BitsLaws.{and-left, and-right}
 use Rattle.flags.specs.Flags.{condition}
 use Rattle.bus.specs.declared.Flow.{Flow}
 use Rattle.bus.specs.Bus.{View, next-word}
 use Rattle.operand.specs.Operands.{get}
-use Rattle.plan.specs.Plans.{quick}
 use Rattle.clocks.specs.Tables.{operand-table, destination-table, lea-table, jmp-table, store-table, load-table, bit-table, exception-table, trap-line}
 use Rattle.clocks.specs.Clocks.{place, place-of, operand-clocks, direct, by-long, general, sized, addressed, narrow, paired, peripheral, moved}
-use Rattle.clocks.specs.Clocks.{located, jumped, listed, stored, loaded, factor, signed, unsigned, shift-count, shifted, bit-clocks}
+use Rattle.clocks.specs.Clocks.{located, jumped, listed, stored, loaded, factor, signed, unsigned, shifted, bit-clocks}
 use Rattle.clocks.specs.Clocks.{branched, counted-by, counted, conditional, exception-clocks}
 use Rattle.clocks.specs.Lines.{Line, Alone, Sized, Addressed, Paired, Narrow, Peripheral, Stored, Loaded, Shifted, Moved, Located, Jumped}
 use Rattle.clocks.specs.Lines.{Signed, Unsigned, Bits, Branched, Counted, Conditional, time, lines, last-line, clocks}
@@ -75,12 +74,6 @@ ones-bound : (d x : ℕ) → onesIn d x ≤ d
 unfolding onesIn
 ones-bound zero x = omega arith
 ones-bound (suc d) x = let h = ones-bound d (x / 2) in omega arith
-
-count-bound : (r : List ℕ) (op : ℕ) → shift-count r op ≤ 63
-unfolding shift-count quick
-count-bound r op =
-    let b = bit-bound (eqb (op / 512 % 8) 0) in
-    either 63 (eqb (op / 32 % 2) 1) (get r (op / 512 % 8) % 64) (op / 512 % 8 + bit (eqb (op / 512 % 8) 0) * 8) (omega arith) (omega arith)
 
 -- ---- rules: a bound of the times is one of the clocks
 
@@ -191,7 +184,7 @@ time-bound (Loaded a b) h r v op f =
     let t = entry-at-most 20 load-table 0 (place-of op) refl (omega arith) in
     let n = listed-bound 8 a b (one-of-two 8 a b h) (two-of-two 8 a b h) v op f in omega arith
 time-bound (Shifted a b) h r v op f =
-    let e = long-bound 44 a b (one-of-two 44 a b h) (two-of-two 44 a b h) (eqb (op / 128 % 2) 1) in let n = count-bound r op in omega arith
+    let e = long-bound 44 a b (one-of-two 44 a b h) (two-of-two 44 a b h) (eqb (op / 128 % 2) 1) in omega arith
 time-bound Moved h r v op f = moved-bound op
 time-bound (Located a) h r v op f =
     let t = entry-at-most 12 lea-table 0 (place-of op) refl (omega arith) in let e = leb-true a 150 h in omega arith

@@ -1,14 +1,14 @@
 -- UnrolledLaws.antt - the rows of specs/Unrolled.antt are D-1's and D-2's, each of the 64; a long takes 4 more for each part that is in memory.
 -- sources-are, sources-long; destinations-are, destinations-long; moved-short, moved-long.
 -- Uses: bits.
-use Prim.Native.Nat.{ℕ, _+_, _*_, _%_, _/_, _<_, _≤_}
+use Prim.Native.Nat.{ℕ, _+_, _*_, _%_, _/_, _<_}
 use native.Mathlib.Omega.{arith}
 use mathlib.Core.Path.{_≡_, refl, sym, ap, _∙_}
 use mathlib.Core.Bool.{Bool, true, false, not}
 use lib.ListN.{getD}
 use lib.Dec.{ltb, eqb}
 use borrow.Author.Tests.{eqb-true}
-use Rattle.bits.specs.Bits.{pick, bit}
+use Rattle.bits.specs.Bits.{bit}
 use Rattle.clocks.specs.Tables.{destination-table}
 use Rattle.clocks.specs.Clocks.{place, operand-clocks, moved}
 use Rattle.clocks.specs.Unrolled.{source-rows, destination-rows}

@@ -1,8 +1,8 @@
 -- Clocks.antt - the rules by which a line of Appendix D gives clocks, for an instruction that takes no exception; and the clocks of an exception.
--- r and v are the registers and the view before the instruction, f the flow behind its operation word. Only a maximum given: that [K2].
+-- r and v are the registers and the view before the instruction, f the flow behind its operation word. Where 003 gives only a maximum, that counts [K2].
 -- Laws: proofs/ClockLaws.antt, proofs/LargestLaws.antt.  Source: [003 D], [K2].
 use Prim.Native.Nat.{ℕ, _+_, _*_, _%_, _/_}
-use mathlib.Core.Bool.{Bool, true, false, _||_}
+use mathlib.Core.Bool.{Bool, false, _||_}
 use mathlib.Core.List.{List}
 use lib.ListN.{getD}
 use lib.Dec.{ltb, eqb}
@@ -15,7 +15,7 @@ use Rattle.flags.specs.Flags.{condition}
 use Rattle.bus.specs.declared.Flow.{Flow}
 use Rattle.bus.specs.Bus.{View, next-word}
 use Rattle.operand.specs.Operands.{get, locate, load}
-use Rattle.plan.specs.Plans.{quick}
+use Rattle.bitwise.specs.Bitwise.{shift-count}
 use Rattle.clocks.specs.Tables.{operand-table, destination-table, lea-table, jmp-table, store-table, load-table, bit-table, exception-table, trap-line}
 
 -- ---- effective addresses
@@ -59,7 +59,7 @@ addressed a b c d op = general a b c d op (eqb (op / 256 % 2) 1)
 unfoldable pub narrow : ℕ → ℕ → ℕ → ℕ
 narrow a c op = general a a c c op false
 
--- registers or -(An),-(An), which bit 3 says; bit 7 says long; nothing is added  [003 D-11]
+-- two registers, or two operands in memory where bit 3 is 1; bit 7 says long; nothing is added  [003 D-11]
 unfoldable pub paired : ℕ → ℕ → ℕ → ℕ → ℕ → ℕ
 paired a b c d op = let long = eqb (op / 128 % 2) 1 in pick (eqb (op / 8 % 2) 0) (by-long a b long) (by-long c d long)
 
@@ -107,13 +107,9 @@ unsigned a r v op f = narrow a a op + onesIn 16 (factor r v op f) * 2
 unfoldable pub signed : ℕ → List ℕ → View → ℕ → Flow → ℕ
 signed a r v op f = let x = factor r v op f in narrow a a op + onesIn 16 (bitXor x (x * 2 % 65536)) * 2
 
--- the count of a shift: a register's modulo 64, or 1 to 8  [003 B ASL LSL ROL ROXL] [01 Arithmetic]
-unfoldable pub shift-count : List ℕ → ℕ → ℕ
-shift-count r op = pick (eqb (op / 32 % 2) 1) (get r (upper-register op) % 64) (quick op)
-
--- a shift of a register: 2 more for each place; bit 7 says long  [003 D-7]
+-- a shift of a register: 2 more for each place, by the count modulo 64; bit 7 says long  [003 D-7] [01 Arithmetic]
 unfoldable pub shifted : ℕ → ℕ → List ℕ → ℕ → ℕ
-shifted a b r op = by-long a b (eqb (op / 128 % 2) 1) + shift-count r op * 2
+shifted a b r op = by-long a b (eqb (op / 128 % 2) 1) + shift-count r op % 64 * 2
 
 -- BTST, BCHG, BCLR, BSET: a, the operation's time, and that of the effective address of a byte; # counts as memory  [003 D-8]
 unfoldable pub bit-clocks : ℕ → ℕ → ℕ

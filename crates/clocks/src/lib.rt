@@ -1,12 +1,12 @@
 // lib.rt - how many clocks an instruction takes, and an exception: Appendix D's rules, each with its line's times as arguments.
 // Means: specs/Clocks.antt.  Laws: proofs/ClockLaws.antt, proofs/UnrolledLaws.antt.
-// Uses: codes, bits, flags, bus, operand, plan.  Source: [003 D], [K2].
+// Uses: codes, bits, flags, bus, operand, bitwise.  Source: [003 D], [K2].
 ghost use mathlib.Core.Path.{_≡_};
 ghost use Prim.Native.Nat.{ℕ, _%_, _<_};
 ghost use lib.Count.{onesIn};
 ghost use Rattle.bus.specs.Bus.{view-of};
 ghost use Rattle.clocks.specs.Clocks.{place, operand-clocks, by-long, general, sized, addressed, narrow, paired, peripheral, moved, located, jumped};
-ghost use Rattle.clocks.specs.Clocks.{listed, stored, loaded, factor, signed, unsigned, shift-count, shifted, bit-clocks, branched, counted-by, counted};
+ghost use Rattle.clocks.specs.Clocks.{listed, stored, loaded, factor, signed, unsigned, shifted, bit-clocks, branched, counted-by, counted};
 ghost use Rattle.clocks.specs.Clocks.{conditional, exception-clocks};
 use bus::Flow;
 use codes::SLOTS;
@@ -179,21 +179,10 @@ pub fn unsigned(a: u8, r: &[u32; SLOTS], mem: &[u8], op: u32, f: Flow) -> u32
     narrow(a, a, op) + ones_of(factor(r, mem, op, f)) * 2
 }
 
-fn shift_count(r: &[u32; SLOTS], op: u32) -> u32
-    ensures { λ n. ⌜ n ≡ shift-count (now (r .entry)) op ⌝ }
-    ensures { λ n. ⌜ n < 64 ⌝ }
-{
-    let held = op / 32 % 2 == 1;
-    if held {
-        return operand::get(r, op / 512 % 8) % 64;
-    }
-    plan::quick(op)
-}
-
 pub fn shifted(a: u8, b: u8, r: &[u32; SLOTS], op: u32) -> u32
     ensures { λ n. ⌜ n ≡ shifted a b (now (r .entry)) op ⌝ }
 {
-    bits::wide(by_long(a, b, op / 128 % 2 == 1)) + shift_count(r, op) * 2
+    bits::wide(by_long(a, b, op / 128 % 2 == 1)) + bitwise::shift_count(r, op) % 64 * 2
 }
 
 pub fn bit_clocks(a: u8, op: u32) -> u32

@@ -1,9 +1,8 @@
 -- ClockLaws.antt - every row of specs/ClockRows.antt holds, by computing; so the largest value of a step is reached.
 -- clock-rows-hold.
 -- Uses: step and all below it.
-use Prim.Native.Nat.{ℕ}
 use mathlib.Core.Path.{_≡_, refl}
-use mathlib.Core.List.{List, [], _∷_, map}
+use mathlib.Core.List.{[], _∷_, map}
 use lib.Count as Count
 use Rattle.bits.specs.Bits as Bits
 use Rattle.flags.specs.Flags as Flags
@@ -57,7 +56,7 @@ unfolding Count.onesIn Bits.iter Bits.by-size Bits.sign-byte Bits.sign-word
     Dispatch.dispatch Dispatch.as-user Dispatch.execute Dispatch.user-clocks Dispatch.own-clocks
     Clocks.place Clocks.operand-clocks Clocks.direct Clocks.general Clocks.sized Clocks.addressed Clocks.narrow Clocks.paired Clocks.peripheral
     Clocks.moved Clocks.located Clocks.jumped Clocks.listed Clocks.stored Clocks.loaded Clocks.factor Clocks.unsigned Clocks.signed
-    Clocks.shift-count Clocks.shifted Clocks.bit-clocks Clocks.branched Clocks.counted-by Clocks.counted Clocks.conditional Clocks.exception-clocks
+    Clocks.shifted Clocks.bit-clocks Clocks.branched Clocks.counted-by Clocks.counted Clocks.conditional Clocks.exception-clocks
     Lines.time Lines.clocks
     Steps.checked Steps.attempt Steps.commit Steps.trap-of Steps.take-trap Steps.traced Steps.both Steps.carry-out Steps.conclude
     Steps.instruction Steps.interrupt Steps.one-step Steps.trap-clocks Steps.trace-clocks Steps.ended-clocks Steps.concluded-clocks

@@ -1,7 +1,7 @@
 -- ClockLaws.antt - an instruction beside its clocks: one arm of a `match` and its `_`, the families by their first kinds, the kinds asked first.
--- arm-plan, last-plan, arm-clocks, last-clocks; family-clocks, first-clocks; user-none, user-own; own-..; branch-..; counted-..; moved-own.
+-- arm-plan, last-plan, arm-clocks, last-clocks, past-clocks; family-clocks, first-clocks; taken-refused, user-..; own-..; after-.., branch-away; counted-..
 -- Uses: bits, flags, bus, operand, plan, clocks, decode, control.
-use Prim.Native.Nat.{ℕ, zero, suc, _+_, _*_, _%_, _/_, _-_, _^_, _<_, _≤_}
+use Prim.Native.Nat.{ℕ, zero, suc, _+_, _*_, _%_, _/_, _-_, _<_, _≤_}
 use native.Mathlib.Omega.{arith}
 use mathlib.Core.Path.{_≡_, refl, sym, ap, _∙_}
 use mathlib.Core.Bool.{Bool, true, false, _||_, not}
@@ -9,8 +9,8 @@ use mathlib.Core.List.{List}
 use lib.ListN.{getD, length, set, List·getD-eq-default}
 use lib.Seq.{getD-set-same}
 use lib.Dec.{ltb, eqb}
-use borrow.Author.Tests.{ltb-true, ltb-false, lt-ltb, eqb-true, eqb-false, eq-eqb, ne-eqb}
-use Rattle.bits.specs.Bits.{pick, bit, by-size, plus, minus, low, joined, sign-word}
+use borrow.Author.Tests.{ltb-false, lt-ltb, eqb-true, eqb-false, eq-eqb, ne-eqb}
+use Rattle.bits.specs.Bits.{pick, by-size, plus, low, joined, sign-word}
 use Rattle.bits.proofs.BitsLaws.{None-below, case-past}
 use Rattle.flags.specs.Flags.{condition}
 use Rattle.bus.specs.declared.Flow.{Flow}
@@ -26,6 +26,7 @@ use Rattle.clocks.specs.Lines.{Line, time, lines, last-line, clocks}
 use Rattle.control.specs.Control as control
 use Rattle.execute.specs.declared.Timed.{Timed}
 use Rattle.execute.specs.Dispatch.{Instruction, refused-plan, as-user, user-clocks, own-clocks, after-branch}
+use Rattle.execute.proofs.DispatchLaws.{same}
 
 -- a number that is none of the first n
 beyond : (n j : ℕ) → None-below n j → n ≤ j
@@ -104,10 +105,6 @@ module _ (r : List ℕ) (v : View) (op k c : ℕ) (f : Flow) where
     own-supervisor h q = cc
 
 -- a kind that is not privileged: the state does not matter
-same : (b : Bool) (n : ℕ) → pick b n n ≡ n
-same true n = refl
-same false n = refl
-
 module _ (r : List ℕ) (v : View) (op n : ℕ) (f : Flow) (e : n ≡ kind-of op) where
   own-at : (i c : ℕ) → n ≡ i → privileged i ≡ false → c ≡ clocks i r v op f → c ≡ own-clocks r v op f
   unfolding own-clocks user-clocks

@@ -1,6 +1,6 @@
 // lib.rt - the instruction of an operation word: its kind, whether it may be done in this state, the family's function, and its clocks.
-// Means: specs/Dispatch.antt.  Laws: proofs/DispatchLaws.antt.
-// Uses: codes, bits, bus, operand, plan, clocks, decode, movement, movem, integer, bitwise, control, system.  Source: [01 step 2], [01 step 4], [003 4.4.7], [K2].
+// Means: specs/Dispatch.antt.  Laws: proofs/DispatchLaws.antt, proofs/ClockLaws.antt.
+// Uses: codes, bus, operand, plan, clocks, decode, movement, control.  Source: [01 step 2], [01 step 4], [003 4.4.7], [K2].
 ghost use mathlib.Core.Path.{_≡_};
 ghost use Prim.Native.Nat.{ℕ, _+_, _*_, _%_, _/_, _<_, _≤_};
 ghost use lib.ListN.{length};

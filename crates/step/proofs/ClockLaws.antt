@@ -1,12 +1,11 @@
 -- ClockLaws.antt - the clocks of a step: one law for each return of the functions that tell them.
 -- trap-..; trace-..; ended-..; concluded-is, instruction-clocks-is; interrupt-halts, interrupt-counts; clocks-interrupted, -instruction, -stopped.
 -- Uses: bits, bus, plan, clocks, bank, exception.
-use Prim.Native.Nat.{ℕ, _+_, _*_, _%_, _/_}
+use Prim.Native.Nat.{ℕ, _+_, _%_, _/_}
 use mathlib.Core.Path.{_≡_, ap}
 use mathlib.Core.Bool.{Bool, true, false, _&&_, _||_, not}
 use mathlib.Core.List.{List}
 use lib.Dec.{ltb, eqb}
-use Rattle.bits.specs.Bits.{pick}
 use Rattle.bus.specs.declared.Flow.{Flow}
 use Rattle.bus.specs.Bus.{view-of}
 use Rattle.bank.specs.Bank.{pc-of, sr-of, mode-of, tracing, bank}

@@ -1,13 +1,12 @@
 -- LargestLaws.antt - no step takes more than 204 clocks: 170 of an instruction and 34 of a trace.
 -- own-bound, own-small; largest-step: the theorem. That 204 is reached is the last row of clock-rows-hold, of crate examples.
 -- Uses: bits, bus, clocks, bank, exception, execute.
-use Prim.Native.Nat.{ℕ, _+_, _*_, _%_, _/_, _≤_, _<_}
+use Prim.Native.Nat.{ℕ, _%_, _/_, _≤_, _<_}
 use native.Mathlib.Omega.{arith}
 use mathlib.Core.Path.{_≡_}
-use mathlib.Core.Bool.{Bool, true, false, _&&_, _||_, not}
+use mathlib.Core.Bool.{Bool, _&&_, _||_, not}
 use mathlib.Core.List.{List}
 use lib.Dec.{ltb, eqb}
-use Rattle.bits.specs.Bits.{pick}
 use Rattle.bus.specs.declared.Flow.{Flow}
 use Rattle.bus.specs.Bus.{View, view-of, next-word}
 use Rattle.bank.specs.Bank.{pc-of, sr-of, mode-of, tracing, bank}
