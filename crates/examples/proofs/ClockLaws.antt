@@ -33,7 +33,7 @@ unfolding Count.onesIn Bits.iter Bits.by-size Bits.sign-byte Bits.sign-word
     Bus.view-of Bus.read-byte Bus.read-word Bus.read-long Bus.read-sized Bus.room Bus.next-word Bus.next-long Bus.put-word Bus.put-long Bus.put-sized
     Operands.get Operands.put Operands.increment Operands.indirect Operands.postincrement Operands.predecrement Operands.displaced
     Operands.index-value Operands.with-index Operands.indexed Operands.absolute-word Operands.absolute-long Operands.pc-displaced Operands.pc-indexed Operands.immediate Operands.special Operands.locate Operands.load Operands.put-low Operands.source Operands.target Operands.modify
-    Plans.finish Plans.push Plans.quick
+    Plans.jump Plans.finish Plans.push Plans.quick
     Alu.sum Alu.difference Alu.concluded Alu.continued Alu.compare Alu.moved Alu.bit-number Alu.bit-changed Alu.bit-operation Alu.tas Alu.check
     MultiplyDivide.signed-long MultiplyDivide.signed-word MultiplyDivide.low-long MultiplyDivide.outside-word MultiplyDivide.product-result
     MultiplyDivide.multiply-signed MultiplyDivide.zero-divide MultiplyDivide.quotient-result MultiplyDivide.divide-signed MultiplyDivide.divide-unsigned
@@ -50,7 +50,8 @@ unfolding Count.onesIn Bits.iter Bits.by-size Bits.sign-byte Bits.sign-word
     Movem.next-spot Movem.load-one Movem.movem-to-registers Movem.movem-down Movem.movem-to-memory Movem.room-way Movem.room-one Movem.block-room Movem.mirrored Movem.put-way Movem.stored Movem.byte-of Movem.part-of Movem.put-part Movem.put-one Movem.block-put Movem.down-one
     Movem.block-put-down
     Bank.bank Bank.usp-after Bank.ssp-after Bank.sr-after Bank.mode-after Bank.settle
-    Exceptions.enter Exceptions.small-room Exceptions.small-frame Exceptions.exception Exceptions.big-room Exceptions.fault-access
+    Exceptions.handler Exceptions.can-enter Exceptions.enter Exceptions.small-room Exceptions.small-frame Exceptions.small-ready Exceptions.exception
+    Exceptions.big-room Exceptions.fault-access Exceptions.big-ready
     Exceptions.fault-rest Exceptions.big-frame Exceptions.fault-taken Exceptions.fault
     Dispatch.refused-kind Dispatch.movement-kind Dispatch.integer-kind Dispatch.logical-kind Dispatch.control-kind Dispatch.system-kind
     Dispatch.dispatch Dispatch.as-user Dispatch.execute Dispatch.user-clocks Dispatch.own-clocks

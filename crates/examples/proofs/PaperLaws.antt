@@ -32,7 +32,7 @@ unfolding Bits.iter Bits.by-size Bits.sign-byte Bits.sign-word
     Operands.index-value Operands.with-index Operands.indexed Operands.absolute-word Operands.absolute-long Operands.pc-displaced
     Operands.pc-indexed Operands.immediate Operands.special Operands.locate Operands.load Operands.put-low Operands.source Operands.target
     Operands.modify
-    Plans.finish Plans.push Plans.quick
+    Plans.jump Plans.finish Plans.push Plans.quick
     Alu.sum Alu.difference Alu.concluded Alu.continued Alu.compare Alu.moved Alu.bit-number Alu.bit-changed Alu.bit-operation Alu.tas Alu.check
     Decimal.decimal-result Decimal.decimal-add Decimal.decimal-subtract
     MultiplyDivide.signed-long MultiplyDivide.signed-word MultiplyDivide.low-long MultiplyDivide.outside-word MultiplyDivide.product-result MultiplyDivide.multiply-signed MultiplyDivide.zero-divide
@@ -49,7 +49,8 @@ unfolding Bits.iter Bits.by-size Bits.sign-byte Bits.sign-word
     Limits.valid-value
     Number.number-bytes Number.back Number.read-number
     Bank.bank Bank.usp-after Bank.ssp-after Bank.sr-after Bank.mode-after Bank.settle
-    Exceptions.enter Exceptions.small-room Exceptions.small-frame Exceptions.exception Exceptions.big-room Exceptions.fault-access
+    Exceptions.handler Exceptions.can-enter Exceptions.enter Exceptions.small-room Exceptions.small-frame Exceptions.small-ready Exceptions.exception
+    Exceptions.big-room Exceptions.fault-access Exceptions.big-ready
     Exceptions.fault-rest Exceptions.big-frame Exceptions.fault-taken Exceptions.fault
     Dispatch.refused-kind Dispatch.movement-kind Dispatch.integer-kind Dispatch.logical-kind Dispatch.control-kind Dispatch.system-kind
     Dispatch.dispatch Dispatch.as-user Dispatch.execute

@@ -1,10 +1,10 @@
 -- ExceptionLaws.antt - one law for each return of the functions of exception.
--- small-room-is, small-frame-is, enter-is, exception-written (slots, memory, event), exception-halts, and the same of faults.
+-- small-room-is, small-frame-is, under-..-is, small-ready-is, enter-is, exception-.. (slots, memory, event), exception-halts-.., and the same of faults.
 -- Uses: bits, bus, touch, bank.
 use Prim.Native.Nat.{ℕ, _+_, _*_, _%_, _/_, _<_, _^_, _≤_}
 use native.Mathlib.Omega.{arith}
 use mathlib.Core.Path.{_≡_}
-use mathlib.Core.Bool.{Bool, true, false}
+use mathlib.Core.Bool.{Bool, true, false, _&&_}
 use mathlib.Core.List.{List}
 use lib.ListN.{getD, set, length}
 use lib.Dec.{eqb}
@@ -12,11 +12,12 @@ use Rattle.bits.specs.Bits.{plus, minus}
 use Rattle.bank.specs.Bank.{long, ssp-of, pc-of, sr-of}
 use Rattle.bus.specs.declared.Flow.{Flow}
 use Rattle.bus.specs.declared.Fetched.{Fetched}
-use Rattle.bus.specs.Bus.{View, view-of, read-long, room, put-word, put-long}
+use Rattle.bus.specs.Bus.{View, view-of, pins, read-long, room, put-word, put-long}
 use Rattle.touch.specs.Touch.{LogOk, Noted}
 use Rattle.touch.proofs.TouchLaws.{noted-none, noted-then}
 use Rattle.exception.specs.Exceptions.{Stepped, fresh, supervisor-sr, halted, small-room, small-frame, big-room, fault-access, fault-rest}
-use Rattle.exception.specs.Exceptions.{big-frame, enter, exception, fault-taken, fault}
+use Rattle.exception.specs.Exceptions.{big-frame, handler, can-enter, small-ready, big-ready, enter, exception, fault-taken, fault}
+use Rattle.exception.specs.Under.{under-byte, under-word, under-long, under-small, under-access, under-rest, under-big}
 
 module _ (v : View) (a : ℕ) where
   pub small-room-is : (e g h : Flow) (b : ℕ) → e ≡ fresh 0 0 → g ≡ room v a 1 e → b ≡ plus a 2 → h ≡ room v b 2 g → eqb (h .bad) 0 ≡ small-room v a
@@ -44,21 +45,70 @@ pub fault-access-is : (m n o : List ℕ) (a bad b : ℕ) → n ≡ put-word m a 
 unfolding fault-access
 fault-access-is m n o a bad b e1 e2 e3 = cc
 
+-- a byte under a frame
+module _ (i b a : ℕ) where
+  module _ (v : ℕ) where
+    pub under-here : eqb (pins a) i ≡ true → v % 256 ≡ under-byte i b a v
+    unfolding under-byte
+    under-here h = cc
+
+    pub under-elsewhere : eqb (pins a) i ≡ false → b ≡ under-byte i b a v
+    unfolding under-byte
+    under-elsewhere h = cc
+
+  module _ (c d : ℕ) where
+    pub under-word-is : (v e : ℕ) → c ≡ under-byte i b a (v / 256) → e ≡ plus a 1 → d ≡ under-byte i c e v → d ≡ under-word i b a v
+    unfolding under-word
+    under-word-is v e e1 e2 e3 = cc
+
+    pub under-long-is : (v e : ℕ) → c ≡ under-word i b a (v / 65536) → e ≡ plus a 2 → d ≡ under-word i c e v → d ≡ under-long i b a v
+    unfolding under-long
+    under-long-is v e e1 e2 e3 = cc
+
+    pub under-small-is : (sr pc e : ℕ) → c ≡ under-word i b a sr → e ≡ plus a 2 → d ≡ under-long i c e pc → d ≡ under-small i b a sr pc
+    unfolding under-small
+    under-small-is sr pc e e1 e2 e3 = cc
+
+    pub under-access-is : (bad e : ℕ) → c ≡ under-word i b a (bad / 4 % 64) → e ≡ plus a 2 → d ≡ under-long i c e (bad / 256) → d ≡ under-access i b a bad
+    unfolding under-access
+    under-access-is bad e e1 e2 e3 = cc
+
+    pub under-rest-is : (op sr pc e : ℕ) → c ≡ under-word i b a op → e ≡ plus a 2 → d ≡ under-small i c e sr pc → d ≡ under-rest i b a op sr pc
+    unfolding under-rest
+    under-rest-is op sr pc e e1 e2 e3 = cc
+
+    pub under-big-is : (bad op sr pc e : ℕ) → c ≡ under-access i b a bad → e ≡ plus a 6 → d ≡ under-rest i c e op sr pc → d ≡ under-big i b a bad op sr pc
+    unfolding under-big
+    under-big-is bad op sr pc e e1 e2 e3 = cc
+
+-- whether an exception can be taken
+module _ (s m : List ℕ) (a pc : ℕ) (x y : Bool) where
+  pub small-ready-is : (vec : ℕ) → a ≡ minus (ssp-of s) 6 → x ≡ small-room (view-of m) a
+      → y ≡ can-enter (view-of (small-frame m a (sr-of s) (pc-of s))) vec → (x && y) ≡ small-ready s m vec
+  unfolding small-ready
+  small-ready-is vec e1 e2 e3 = cc
+
+  pub big-ready-is : (bad op : ℕ) → a ≡ minus (ssp-of s) 14 → pc ≡ plus (pc-of s) 2 → x ≡ big-room (view-of m) a
+      → y ≡ can-enter (view-of (big-frame m a bad op (sr-of s) pc)) (bad % 4) → (x && y) ≡ big-ready s m bad op
+  unfolding big-ready
+  big-ready-is bad op e1 e2 e3 e4 = cc
+
 -- the vector's long fits, as every slot does
 pub enter-is : (s : List ℕ) (v : View) (a vec sr : ℕ) (e : Flow) (w : Fetched) → e ≡ fresh 0 0 → w ≡ read-long v (vec % 256 * 4) 17 e → w .value < 2 ^ 32 → set (set (set (set s 16 a) 17 (w .value)) 18 sr) 19 0 ≡ enter s v a vec sr
-unfolding enter
+unfolding enter handler
 enter-is s v a vec sr e w e1 e2 h = let l : w .value ≡ long (w .value) = omega arith in cc
 
--- an exception: b says whether its frame can be written
-module _ (s m : List ℕ) (vec sr a : ℕ) (b : Bool) (e1 : a ≡ minus (ssp-of s) 6) (e2 : b ≡ small-room (view-of m) a) where
-  module _ (y : b ≡ true) (n : List ℕ) (e3 : n ≡ small-frame m a (sr-of s) (pc-of s)) where
-    pub exception-slots : (t : List ℕ) → t ≡ enter s (view-of n) a vec sr → t ≡ exception s m vec sr .s
-    unfolding exception
-    exception-slots t e = cc
+-- an exception: b says whether it can be taken
+module _ (s m : List ℕ) (vec sr : ℕ) (b : Bool) (e1 : b ≡ small-ready s m vec) where
+  module _ (y : b ≡ true) where
+    module _ (n : List ℕ) (a : ℕ) (e2 : a ≡ minus (ssp-of s) 6) (e3 : n ≡ small-frame m a (sr-of s) (pc-of s)) where
+      pub exception-slots : (t : List ℕ) → t ≡ enter s (view-of n) a vec sr → t ≡ exception s m vec sr .s
+      unfolding exception
+      exception-slots t e = cc
 
-    pub exception-memory : n ≡ exception s m vec sr .m
-    unfolding exception
-    exception-memory = cc
+      pub exception-memory : n ≡ exception s m vec sr .m
+      unfolding exception
+      exception-memory = cc
 
     pub exception-event : vec % 256 + 1 ≡ exception s m vec sr .event
     unfolding exception
@@ -77,47 +127,48 @@ module _ (s m : List ℕ) (vec sr a : ℕ) (b : Bool) (e1 : a ≡ minus (ssp-of 
     unfolding exception
     exception-halts-event = cc
 
--- a fault whose frame can be written
-module _ (s m n : List ℕ) (a bad op pc : ℕ) (e : n ≡ big-frame m a bad op (sr-of s) pc) where
-  pub fault-taken-slots : (t : List ℕ) (sr : ℕ) → sr ≡ supervisor-sr (sr-of s) → t ≡ enter s (view-of n) a (bad % 4) sr → t ≡ fault-taken s m a bad op pc .s
+-- a fault that can be taken
+module _ (s m : List ℕ) (bad op : ℕ) where
+  module _ (n : List ℕ) (a pc : ℕ) (e1 : a ≡ minus (ssp-of s) 14) (e2 : pc ≡ plus (pc-of s) 2) (e3 : n ≡ big-frame m a bad op (sr-of s) pc) where
+    pub fault-taken-slots : (t : List ℕ) (sr : ℕ) → sr ≡ supervisor-sr (sr-of s) → t ≡ enter s (view-of n) a (bad % 4) sr → t ≡ fault-taken s m bad op .s
+    unfolding fault-taken
+    fault-taken-slots t sr d h = cc
+
+    pub fault-taken-memory : n ≡ fault-taken s m bad op .m
+    unfolding fault-taken
+    fault-taken-memory = cc
+
+  pub fault-taken-event : bad % 4 + 1 ≡ fault-taken s m bad op .event
   unfolding fault-taken
-  fault-taken-slots t sr d h = cc
+  fault-taken-event = cc
 
-  pub fault-taken-memory : n ≡ fault-taken s m a bad op pc .m
-  unfolding fault-taken
-  fault-taken-memory = cc
+  -- a fault: b says whether it can be taken
+  module _ (b : Bool) (e1 : b ≡ big-ready s m bad op) where
+    module _ (y : b ≡ true) where
+      pub fault-slots : (t : List ℕ) → t ≡ fault-taken s m bad op .s → t ≡ fault s m bad op .s
+      unfolding fault
+      fault-slots t e = cc
 
-pub fault-taken-event : (s m : List ℕ) (a bad op pc : ℕ) → bad % 4 + 1 ≡ fault-taken s m a bad op pc .event
-unfolding fault-taken
-fault-taken-event s m a bad op pc = cc
+      pub fault-memory : (n : List ℕ) → n ≡ fault-taken s m bad op .m → n ≡ fault s m bad op .m
+      unfolding fault
+      fault-memory n e = cc
 
--- a fault: b says whether its frame can be written
-module _ (s m : List ℕ) (bad op a pc : ℕ) (b : Bool) (e0 : pc ≡ plus (pc-of s) 2) (e1 : a ≡ minus (ssp-of s) 14) (e2 : b ≡ big-room (view-of m) a) where
-  module _ (y : b ≡ true) where
-    pub fault-slots : (t : List ℕ) → t ≡ fault-taken s m a bad op pc .s → t ≡ fault s m bad op .s
-    unfolding fault
-    fault-slots t e = cc
+      pub fault-event : (x : ℕ) → x ≡ fault-taken s m bad op .event → x ≡ fault s m bad op .event
+      unfolding fault
+      fault-event x e = cc
 
-    pub fault-memory : (n : List ℕ) → n ≡ fault-taken s m a bad op pc .m → n ≡ fault s m bad op .m
-    unfolding fault
-    fault-memory n e = cc
+    module _ (y : b ≡ false) where
+      pub fault-halts-slots : set s 19 2 ≡ fault s m bad op .s
+      unfolding fault
+      fault-halts-slots = cc
 
-    pub fault-event : (x : ℕ) → x ≡ fault-taken s m a bad op pc .event → x ≡ fault s m bad op .event
-    unfolding fault
-    fault-event x e = cc
+      pub fault-halts-memory : m ≡ fault s m bad op .m
+      unfolding fault
+      fault-halts-memory = cc
 
-  module _ (y : b ≡ false) where
-    pub fault-halts-slots : set s 19 2 ≡ fault s m bad op .s
-    unfolding fault
-    fault-halts-slots = cc
-
-    pub fault-halts-memory : m ≡ fault s m bad op .m
-    unfolding fault
-    fault-halts-memory = cc
-
-    pub fault-halts-event : 257 ≡ fault s m bad op .event
-    unfolding fault
-    fault-halts-event = cc
+      pub fault-halts-event : 257 ≡ fault s m bad op .event
+      unfolding fault
+      fault-halts-event = cc
 
 -- nothing is written, and nothing noted
 pub noted-still : (m l : List ℕ) (n k : ℕ) → LogOk m l n → Noted m l n k m l n

@@ -1,13 +1,15 @@
-// lib.rt - an exception: its frame of 6 or 14 bytes on SSP, the vector, and the halt where the frame cannot be written whole.
-// Means: specs/Exceptions.antt.  Laws: proofs/ExceptionLaws.antt.
-// Uses: codes, bits, bank, bus, store, touch.  Source: [003 4.3.5], [003 4.4.9], [003 4.4.10], [01 step 1], [01 step 7], [01 step 8].
+// lib.rt - an exception: its frame of 6 or 14 bytes on SSP, the vector, and the halt where it cannot be taken.
+// Means: specs/Exceptions.antt, specs/Under.antt.  Laws: proofs/ExceptionLaws.antt, proofs/UnderLaws.antt.
+// Uses: codes, bits, bank, bus, store, touch.  Source: [003 4.3.5], [003 4.4.9], [003 4.4.10], [01 step 1], [01 step 7], [01 step 8], [K3].
 ghost use mathlib.Core.Path.{_≡_};
+ghost use mathlib.Core.Bool.{_||_};
 ghost use Prim.Native.Nat.{ℕ, _+_, _*_, _%_, _/_, _<_, _≤_};
 ghost use lib.ListN.{getD, set, length};
 ghost use Rattle.bus.specs.Bus.{view-of};
 ghost use Rattle.touch.specs.Touch.{LogOk, Noted};
 ghost use Rattle.exception.specs.Exceptions.{fresh, small-room, small-frame, big-room, fault-access, fault-rest, big-frame, enter, exception};
-ghost use Rattle.exception.specs.Exceptions.{fault-taken, fault, supervisor-sr};
+ghost use Rattle.exception.specs.Exceptions.{fault-taken, fault, supervisor-sr, of-fault, can-enter, small-ready, big-ready};
+ghost use Rattle.exception.specs.Under.{under-byte, under-word, under-long, under-small, under-access, under-rest, under-big};
 use bus::Flow;
 use codes::SLOTS;
 
@@ -50,6 +52,75 @@ fn small_frame(mem: &mut [u8], log: &mut [u64], n: usize, a: u32, sr: u32, pc: u
     store::store_long(mem, log, k, std::num::wrapping_add_u32(a, 2), pc)
 }
 
+// Whether a vector is one whose handler must be even.
+fn of_fault(vec: u32) -> bool
+    ensures { λ r. ⌜ r ≡ of-fault vec ⌝ }
+{
+    (vec % 256 == codes::BUS_ERROR) | (vec % 256 == codes::ADDRESS_ERROR)
+}
+
+// What the byte b at place i of memory is, once a byte is put at a.
+fn under_byte(i: u32, b: u32, a: u32, v: u32) -> u32
+    ensures { λ r. ⌜ r ≡ under-byte i b a v ⌝ }
+{
+    let here = a % codes::ADDRESSES == i;
+    if here {
+        return v % 256;
+    }
+    b
+}
+
+fn under_word(i: u32, b: u32, a: u32, v: u32) -> u32
+    ensures { λ r. ⌜ r ≡ under-word i b a v ⌝ }
+{
+    let c = under_byte(i, b, a, v / 256);
+    under_byte(i, c, std::num::wrapping_add_u32(a, 1), v)
+}
+
+fn under_long(i: u32, b: u32, a: u32, v: u32) -> u32
+    ensures { λ r. ⌜ r ≡ under-long i b a v ⌝ }
+{
+    let c = under_word(i, b, a, v / 65536);
+    under_word(i, c, std::num::wrapping_add_u32(a, 2), v)
+}
+
+// The same byte once the frame of six bytes is put.
+fn under_small(i: u32, b: u32, a: u32, sr: u32, pc: u32) -> u32
+    ensures { λ r. ⌜ r ≡ under-small i b a sr pc ⌝ }
+{
+    let c = under_word(i, b, a, sr);
+    under_long(i, c, std::num::wrapping_add_u32(a, 2), pc)
+}
+
+// Whether the handler can be entered once the small frame is written. Looked up before it is: an exception that halts writes nothing. The
+// last byte of the vector tells odd from even.
+fn small_enters(mem: &[u8], a: u32, vec: u32, sr: u32, pc: u32) -> bool
+    ensures { λ r. ⌜ r ≡ can-enter (view-of (small-frame (now (mem .entry)) a sr pc)) vec ⌝ }
+{
+    let judged = of_fault(vec);
+    if judged {
+        let i = vec % 256 * 4 + 3;
+        let at = i as usize;
+        let inside = at < mem.len();
+        if inside {
+            let c = under_small(i, bits::wide(mem[at]), a, sr, pc);
+            return c % 2 == 0;
+        }
+        return true;
+    }
+    true
+}
+
+// Whether an exception with the small frame can be taken.
+fn small_ready(s: &[u32; SLOTS], mem: &[u8], vec: u32) -> bool
+    ensures { λ r. ⌜ r ≡ small-ready (now (s .entry)) (now (mem .entry)) vec ⌝ }
+{
+    let a = bits::minus(s[codes::SSP], 6);
+    let room = small_room(mem, a);
+    let enters = small_enters(mem, a, vec, s[codes::SR], s[codes::PC]);
+    room & enters
+}
+
 // The slots as an exception leaves them: SSP at the frame, PC from the vector, which is read after the frame is written; running.
 fn enter(s: &mut [u32; SLOTS], mem: &[u8], a: u32, vec: u32, sr: u32)
     ensures { λ _. ⌜ now (s .exit) ≡ enter (now (s .entry)) (view-of (now (mem .entry))) a vec sr ⌝ }
@@ -77,12 +148,10 @@ pub fn exception(
     ensures { λ r. ⌜ r .event ≡ exception (now (s .entry)) (now (mem .entry)) vec sr .event ⌝ }
     ensures { λ r. ⌜ Noted (now (mem .entry)) (now (log .entry)) n 6 (now (mem .exit)) (now (log .exit)) (r .n) ⌝ }
 {
-    let old = s[codes::SR];
-    let pc = s[codes::PC];
-    let a = bits::minus(s[codes::SSP], 6);
-    let ok = small_room(mem, a);
-    if ok {
-        let k = small_frame(mem, log, n, a, old, pc);
+    let ready = small_ready(s, mem, vec);
+    if ready {
+        let a = bits::minus(s[codes::SSP], 6);
+        let k = small_frame(mem, log, n, a, s[codes::SR], s[codes::PC]);
         enter(s, mem, a, vec, sr);
         return Ended {
             n: k,
@@ -146,24 +215,75 @@ fn big_frame(
     fault_rest(mem, log, k, std::num::wrapping_add_u32(a, 6), op, sr, pc)
 }
 
-// A fault whose frame at a can be written.
+// A byte of memory once the frame of a fault is put: its first six bytes, the eight above them, all.
+fn under_access(i: u32, b: u32, a: u32, bad: u32) -> u32
+    ensures { λ r. ⌜ r ≡ under-access i b a bad ⌝ }
+{
+    let c = under_word(i, b, a, bad / 4 % 64);
+    under_long(i, c, std::num::wrapping_add_u32(a, 2), bad / 256)
+}
+
+fn under_rest(i: u32, b: u32, a: u32, op: u32, sr: u32, pc: u32) -> u32
+    ensures { λ r. ⌜ r ≡ under-rest i b a op sr pc ⌝ }
+{
+    let c = under_word(i, b, a, op);
+    under_small(i, c, std::num::wrapping_add_u32(a, 2), sr, pc)
+}
+
+fn under_big(i: u32, b: u32, a: u32, bad: u32, op: u32, sr: u32, pc: u32) -> u32
+    ensures { λ r. ⌜ r ≡ under-big i b a bad op sr pc ⌝ }
+{
+    let c = under_access(i, b, a, bad);
+    under_rest(i, c, std::num::wrapping_add_u32(a, 6), op, sr, pc)
+}
+
+// Whether the handler of a fault can be entered once its frame is written.
+fn big_enters(mem: &[u8], a: u32, bad: u32, op: u32, sr: u32, pc: u32) -> bool
+    ensures { λ r. ⌜ r ≡ can-enter (view-of (big-frame (now (mem .entry)) a bad op sr pc)) (bad % 4) ⌝ }
+{
+    let judged = of_fault(bad % 4);
+    if judged {
+        let i = bad % 4 % 256 * 4 + 3;
+        let at = i as usize;
+        let inside = at < mem.len();
+        if inside {
+            let c = under_big(i, bits::wide(mem[at]), a, bad, op, sr, pc);
+            return c % 2 == 0;
+        }
+        return true;
+    }
+    true
+}
+
+// Whether a fault can be taken.
+fn big_ready(s: &[u32; SLOTS], mem: &[u8], bad: u32, op: u32) -> bool
+    ensures { λ r. ⌜ r ≡ big-ready (now (s .entry)) (now (mem .entry)) bad op ⌝ }
+{
+    let a = bits::minus(s[codes::SSP], 14);
+    let pc = std::num::wrapping_add_u32(s[codes::PC], 2);
+    let room = big_room(mem, a);
+    let enters = big_enters(mem, a, bad, op, s[codes::SR], pc);
+    room & enters
+}
+
+// A fault that can be taken: the saved PC is the instruction's address plus 2.
 fn fault_taken(
     s: &mut [u32; SLOTS],
     mem: &mut [u8],
     log: &mut [u64],
     n: usize,
-    a: u32,
     bad: u32,
     op: u32,
-    pc: u32,
 ) -> Ended
     requires { ⌜ LogOk (now mem) (now log) n × (n + 14 ≤ length (now log)) ⌝ }
-    ensures { λ _. ⌜ now (s .exit) ≡ fault-taken (now (s .entry)) (now (mem .entry)) a bad op pc .s ⌝ }
-    ensures { λ _. ⌜ now (mem .exit) ≡ fault-taken (now (s .entry)) (now (mem .entry)) a bad op pc .m ⌝ }
-    ensures { λ r. ⌜ r .event ≡ fault-taken (now (s .entry)) (now (mem .entry)) a bad op pc .event ⌝ }
+    ensures { λ _. ⌜ now (s .exit) ≡ fault-taken (now (s .entry)) (now (mem .entry)) bad op .s ⌝ }
+    ensures { λ _. ⌜ now (mem .exit) ≡ fault-taken (now (s .entry)) (now (mem .entry)) bad op .m ⌝ }
+    ensures { λ r. ⌜ r .event ≡ fault-taken (now (s .entry)) (now (mem .entry)) bad op .event ⌝ }
     ensures { λ r. ⌜ Noted (now (mem .entry)) (now (log .entry)) n 14 (now (mem .exit)) (now (log .exit)) (r .n) ⌝ }
 {
     let sr = s[codes::SR];
+    let a = bits::minus(s[codes::SSP], 14);
+    let pc = std::num::wrapping_add_u32(s[codes::PC], 2);
     let k = big_frame(mem, log, n, a, bad, op, sr, pc);
     enter(s, mem, a, bad % 4, supervisor_sr(sr));
     Ended {
@@ -172,7 +292,7 @@ fn fault_taken(
     }
 }
 
-// The exception of a fault, from the slots as they were before the instruction: the saved PC is its address plus 2.
+// The exception of a fault, from the slots as they were before the instruction.
 pub fn fault(
     s: &mut [u32; SLOTS],
     mem: &mut [u8],
@@ -187,11 +307,9 @@ pub fn fault(
     ensures { λ r. ⌜ r .event ≡ fault (now (s .entry)) (now (mem .entry)) bad op .event ⌝ }
     ensures { λ r. ⌜ Noted (now (mem .entry)) (now (log .entry)) n 14 (now (mem .exit)) (now (log .exit)) (r .n) ⌝ }
 {
-    let pc = std::num::wrapping_add_u32(s[codes::PC], 2);
-    let a = bits::minus(s[codes::SSP], 14);
-    let ok = big_room(mem, a);
-    if ok {
-        return fault_taken(s, mem, log, n, a, bad, op, pc);
+    let ready = big_ready(s, mem, bad, op);
+    if ready {
+        return fault_taken(s, mem, log, n, bad, op);
     }
     s[codes::MODE] = codes::HALTED;
     Ended {

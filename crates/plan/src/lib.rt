@@ -1,6 +1,6 @@
 // lib.rt - what an instruction leaves to do: one write, a trap or a stop, and where it stands. The instruction families share this.
 // Means: specs/Plans.antt.  Laws: proofs/PlanLaws.antt.
-// Uses: codes, bits, flags, bus, operand.  Source: [003 4.4.5], [01 step 3], [01 step 6], [01 step 9], [ours].
+// Uses: codes, bits, flags, bus, operand.  Source: [003 4.4.5], [003 4.4.10], [01 step 3], [01 step 6], [K3], [ours].
 ghost use mathlib.Core.Path.{_≡_};
 ghost use Prim.Native.Nat.{ℕ, _+_, _*_, _%_, _/_, _<_, _≤_};
 ghost use Rattle.plan.specs.Plans.{Done, flagged, jump, nothing, trapping, refusing, stopping, writing, finish, push, quick};
@@ -27,10 +27,14 @@ pub fn flagged(f: Flow, c: u32) -> Flow
     bus::with_sr(f, flags::with_ccr(f.sr, c))
 }
 
-// Every jump goes through here: PC becomes the target, odd or not.
+// Every jump goes through here. An odd target is an address error, in the state of the flow: so a jump comes before its SR.
 pub fn jump(f: Flow, to: u32) -> Flow
     ensures { λ g. ⌜ g ≡ jump f to ⌝ }
 {
+    let odd = (f.bad == 0) & (to % 2 == 1);
+    if odd {
+        return bus::failed(f, codes::ADDRESS_ERROR, to, codes::PROGRAM_READ);
+    }
     bus::with_pc(f, to)
 }
 

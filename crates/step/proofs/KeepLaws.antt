@@ -15,16 +15,16 @@ use mathlib.Core.List.{List}
 use lib.ListN.{length, set, length-set}
 use lib.Dec.{ltb, eqb}
 use borrow.Author.Tests.{eq-eqb, eqb-true, lt-ltb}
-use Rattle.codes.specs.Codes.{Ssp, Pc, Sr, Mode, Running, Halted, Mask, TopLevel, TraceVector, NoVector, StopCode, DataRead, NoWrite}
+use Rattle.codes.specs.Codes.{Ssp, Pc, Sr, Mode, Running, Halted, Mask, TopLevel, TraceVector, NoVector, StopCode, NoWrite}
 use Rattle.bits.specs.Bits.{pick, plus, minus}
 use Rattle.bits.proofs.BitsLaws.{bit-bound}
 use Rattle.flags.specs.Flags.{sr-bits, with-ccr}
-use Rattle.bus.specs.Bus.{View, view-of, read-long}
+use Rattle.bus.specs.Bus.{View, view-of}
 use Rattle.record.specs.Limits.{slot-limit, byte-limit, valid-status, valid-value, ValidSlots, ValidBytes}
 use Rattle.record.specs.Change.{diffs}
 use Rattle.plan.specs.declared.Plan.{Plan}
 use Rattle.bank.specs.Bank.{ssp-of, pc-of, sr-of, mode-of, supervisor, tracing, long, bank, sr-after, mode-after, settle}
-use Rattle.exception.specs.Exceptions.{Stepped, fresh, supervisor-sr, enter, small-room, exception, big-room, fault-taken, fault}
+use Rattle.exception.specs.Exceptions.{Stepped, fresh, supervisor-sr, handler, enter, small-ready, exception, big-ready, fault-taken, fault}
 use Rattle.step.specs.declared.Tried.{Tried}
 use Rattle.step.specs.Steps.{conclude, attempt, commit, trap-of, take-trap, traced, both, carry-out, instruction, interrupt-sr, interrupt}
 use Rattle.step.specs.Steps.{one-step}
@@ -137,9 +137,9 @@ sound-set s k v h ok =
     }
 
 pub sound-of-enter : (s : List ℕ) (v : View) (a vec sr : ℕ) → Sound s → a < 2 ^ 32 → Status sr → Sound (enter s v a vec sr)
-unfolding enter valid-value
+unfolding enter handler valid-value
 sound-of-enter s v a vec sr h ha hs =
-    let pc = long (read-long v (vec % 256 * 4) DataRead (fresh 0 0) .value) in
+    let pc = handler v vec in
     let s₁ = set s Ssp a in
     let s₂ = set s₁ Pc pc in
     let h₂ = sound-set s₁ Pc pc (sound-set s Ssp a h (refl, ha)) (refl, omega arith) in
@@ -183,17 +183,15 @@ module _ (s m : List ℕ) (h : ValidBytes m) where
   touches-of-exception : (vec sr : ℕ) → Touches 6 m (exception s m vec sr .m)
   unfolding exception
   touches-of-exception vec sr =
-      let a = minus (ssp-of s) 6 in
-      pick-cases (λ (t : Stepped). Touches 6 m (t .m)) (small-room (view-of m) a)
-      (writes-of-small-frame a (sr-of s) (pc-of s) .touch m h)
+      pick-cases (λ (t : Stepped). Touches 6 m (t .m)) (small-ready s m vec)
+      (writes-of-small-frame (minus (ssp-of s) 6) (sr-of s) (pc-of s) .touch m h)
       (touches-none 6 m h)
 
   touches-of-fault : (bad op : ℕ) → Touches 14 m (fault s m bad op .m)
   unfolding fault fault-taken
   touches-of-fault bad op =
-      let a = minus (ssp-of s) 14 in
-      pick-cases (λ (t : Stepped). Touches 14 m (t .m)) (big-room (view-of m) a)
-      (writes-of-big-frame a bad op (sr-of s) (plus (pc-of s) 2) .touch m h)
+      pick-cases (λ (t : Stepped). Touches 14 m (t .m)) (big-ready s m bad op)
+      (writes-of-big-frame (minus (ssp-of s) 14) bad op (sr-of s) (plus (pc-of s) 2) .touch m h)
       (touches-none 14 m h)
 
   touches-of-take-trap : (vec : ℕ) → Touches 6 m (take-trap s m vec .m)

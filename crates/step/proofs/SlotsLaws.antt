@@ -9,13 +9,13 @@ use mathlib.Core.Bool.{Bool, _||_}
 use mathlib.Core.List.{List}
 use lib.ListN.{length, set, length-set}
 use lib.Dec.{ltb, eqb}
-use Rattle.codes.specs.Codes.{Ssp, Pc, Sr, Mode, Running, Halted, Mask, TopLevel, TraceVector, NoVector, DataRead, NoWrite}
+use Rattle.codes.specs.Codes.{Ssp, Pc, Sr, Mode, Running, Halted, Mask, TopLevel, TraceVector, NoVector, NoWrite}
 use Rattle.bits.specs.Bits.{pick, minus}
-use Rattle.bus.specs.Bus.{View, view-of, read-long, fault-vector}
+use Rattle.bus.specs.Bus.{View, view-of, fault-vector}
 use Rattle.record.specs.Limits.{slot-limit}
 use Rattle.plan.specs.declared.Plan.{Plan}
 use Rattle.bank.specs.Bank.{long, ssp-of, pc-of, sr-of, mode-of, tracing, bank, settle}
-use Rattle.exception.specs.Exceptions.{Stepped, fresh, supervisor-sr, enter, small-room, exception, big-room, fault-taken, fault}
+use Rattle.exception.specs.Exceptions.{Stepped, fresh, supervisor-sr, handler, enter, small-ready, exception, big-ready, fault-taken, fault}
 use Rattle.step.specs.declared.Tried.{Tried}
 use Rattle.step.specs.Steps.{conclude, attempt, commit, trap-of, take-trap, traced, both, carry-out, instruction, interrupt-sr, interrupt}
 use Rattle.step.specs.Steps.{one-step}
@@ -34,12 +34,11 @@ module _ (P : List ℕ → Type 0) (keeps : Keeps P) where
   module _ (s m : List ℕ) (h : P s) where
     kept-by-exception : (vec sr : ℕ) → ((v : View) → P (enter s v (minus (ssp-of s) 6) vec sr)) → InSlots (exception s m vec sr)
     unfolding exception
-    kept-by-exception vec sr e = pick-cases InSlots (small-room (view-of m) (minus (ssp-of s) 6)) (e _) (keeps .halting s h)
+    kept-by-exception vec sr e = pick-cases InSlots (small-ready s m vec) (e _) (keeps .halting s h)
 
     kept-by-fault : (bad op : ℕ) → InSlots (fault s m bad op)
     unfolding fault fault-taken
-    kept-by-fault bad op =
-        pick-cases InSlots (big-room (view-of m) (minus (ssp-of s) 14)) (keeps .trapping s _ 14 (fault-vector bad) h) (keeps .halting s h)
+    kept-by-fault bad op = pick-cases InSlots (big-ready s m bad op) (keeps .trapping s _ 14 (fault-vector bad) h) (keeps .halting s h)
 
     kept-by-take-trap : (vec : ℕ) → InSlots (take-trap s m vec)
     unfolding take-trap
@@ -90,7 +89,7 @@ twenty-of-set s k v h = length-set s k v ∙ h
 twenty-of-enter : (s : List ℕ) (v : View) (a vec sr : ℕ) → Twenty s → Twenty (enter s v a vec sr)
 unfolding enter
 twenty-of-enter s v a vec sr h =
-    let pc = long (read-long v (vec % 256 * 4) DataRead (fresh 0 0) .value) in
+    let pc = handler v vec in
     let s₁ = set s Ssp a in
     let s₂ = set s₁ Pc pc in
     twenty-of-set (set s₂ Sr sr) Mode Running (twenty-of-set s₂ Sr sr (twenty-of-set s₁ Pc pc (twenty-of-set s Ssp a h)))

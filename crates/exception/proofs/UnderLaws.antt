@@ -1,0 +1,174 @@
+-- UnderLaws.antt - what `Under` says of a byte is what memory holds once the frame is put; so a handler is odd or even before it is.
+-- over-small, over-big; handler-parity: the last byte of a vector tells; small-enters-.., big-enters-..: one law for each return.
+-- Uses: bits, bus.
+use Prim.Native.Nat.{ℕ, zero, suc, _+_, _*_, _%_, _/_, _<_, _≤_}
+use native.Mathlib.Omega.{arith}
+use mathlib.Core.Path.{_≡_, refl, sym, ap, _∙_}
+use mathlib.Core.Bool.{Bool, true, false, _&&_, _||_, not}
+use mathlib.Core.List.{List}
+use lib.ListN.{getD, set, length, length-set, List·getD-eq-default}
+use lib.Seq.{getD-set-same, getD-set-other}
+use lib.Dec.{eqb, ltb}
+use borrow.Author.Tests.{eqb-true, eqb-false, ne-eqb, ltb-true, ltb-false, lt-ltb}
+use Rattle.bits.specs.Bits.{pick, plus}
+use Rattle.bus.specs.declared.Flow.{Flow}
+use Rattle.bus.specs.declared.Fetched.{Fetched}
+use Rattle.bus.specs.Bus.{View, view-of, read-word, read-long, pins, put-byte, put-word, put-long}
+use Rattle.bus.proofs.BusLaws.{word-inside}
+use Rattle.exception.specs.Exceptions.{fresh, of-fault, handler, can-enter, small-frame, fault-access, fault-rest, big-frame}
+use Rattle.exception.specs.Under.{under-byte, under-word, under-long, under-small, under-access, under-rest, under-big}
+
+-- n is m with something put over it: where m has b at place i, n has c
+pub record Over (i b c : ℕ) (m n : List ℕ) : Type 0 where
+  pub same : length n ≡ length m
+  pub byte : i < length m → getD m i 0 ≡ b → getD n i 0 ≡ c
+
+module _ (i : ℕ) where
+  over-then : {b c d : ℕ} {m n o : List ℕ} → Over i b c m n → Over i c d n o → Over i b d m o
+  over-then x y =
+      record { same = y .same ∙ x .same; byte = λ l e. let k = x .same in y .byte (omega (arith, k, l)) (x .byte l e) }
+
+  over-at : (m : List ℕ) (b p x : ℕ) (t : Bool) → eqb p i ≡ t → i < length m → getD m i 0 ≡ b → getD (set m p x) i 0 ≡ pick t x b
+  over-at m b p x true e l d =
+      let q = eqb-true p i e in let y = getD-set-same m p x 0 (omega (arith, q, l)) in cc
+  over-at m b p x false e l d = getD-set-other m p i x 0 (λ z. eqb-false p i e (sym z)) ∙ d
+
+  over-byte : (m : List ℕ) (b a v : ℕ) → Over i b (under-byte i b a v) m (put-byte m a v)
+  unfolding under-byte
+  over-byte m b a v =
+      record { same = length-set m (pins a) (v % 256); byte = λ l e. over-at m b (pins a) (v % 256) (eqb (pins a) i) refl l e }
+
+  over-word : (m : List ℕ) (b a v : ℕ) → Over i b (under-word i b a v) m (put-word m a v)
+  unfolding under-word put-word
+  over-word m b a v = over-then (over-byte m b a (v / 256)) (over-byte (put-byte m a (v / 256)) (under-byte i b a (v / 256)) (plus a 1) v)
+
+  over-long : (m : List ℕ) (b a v : ℕ) → Over i b (under-long i b a v) m (put-long m a v)
+  unfolding under-long put-long
+  over-long m b a v = over-then (over-word m b a (v / 65536)) (over-word (put-word m a (v / 65536)) (under-word i b a (v / 65536)) (plus a 2) v)
+
+  pub over-small : (m : List ℕ) (b a sr pc : ℕ) → Over i b (under-small i b a sr pc) m (small-frame m a sr pc)
+  unfolding under-small small-frame
+  over-small m b a sr pc = over-then (over-word m b a sr) (over-long (put-word m a sr) (under-word i b a sr) (plus a 2) pc)
+
+  over-access : (m : List ℕ) (b a bad : ℕ) → Over i b (under-access i b a bad) m (fault-access m a bad)
+  unfolding under-access fault-access
+  over-access m b a bad =
+      over-then (over-word m b a (bad / 4 % 64)) (over-long (put-word m a (bad / 4 % 64)) (under-word i b a (bad / 4 % 64)) (plus a 2) (bad / 256))
+
+  over-rest : (m : List ℕ) (b a op sr pc : ℕ) → Over i b (under-rest i b a op sr pc) m (fault-rest m a op sr pc)
+  unfolding under-rest fault-rest
+  over-rest m b a op sr pc = over-then (over-word m b a op) (over-small (put-word m a op) (under-word i b a op) (plus a 2) sr pc)
+
+  pub over-big : (m : List ℕ) (b a bad op sr pc : ℕ) → Over i b (under-big i b a bad op sr pc) m (big-frame m a bad op sr pc)
+  unfolding under-big big-frame
+  over-big m b a bad op sr pc =
+      over-then (over-access m b a bad) (over-rest (fault-access m a bad) (under-access i b a bad) (plus a 6) op sr pc)
+
+-- ---- the last byte of a vector tells whether its handler is odd
+
+-- a word outside memory is read as 0, after a fault too
+word-past : (b c : Bool) (n : List ℕ) (a k : ℕ) (f : Flow) → eqb (f .bad) 0 ≡ b → eqb (pins a % 2) 1 ≡ c → ltb (pins a + 1) (length n) ≡ false
+    → read-word (view-of n) a k f .value ≡ 0
+unfolding read-word view-of
+word-past true true n a k f d e h = cc
+word-past true false n a k f d e h = cc
+word-past false c n a k f d e h = cc
+
+module _ (n : List ℕ) (k : ℕ) where
+  word-at : (a : ℕ) → a % 2 ≡ 0 → a < 2048 → a + 1 < length n
+      → read-word (view-of n) a k (fresh 0 0) ≡ record { value = getD n a 0 * 256 + getD n (a + 1) 0; flow = fresh 0 0 }
+  word-at a even low h =
+      let q : pins a ≡ a = omega (arith, low) in
+      sym (word-inside n a k (fresh 0 0) refl (getD n a 0) (getD n (a + 1) 0)
+        (ne-eqb (pins a % 2) 1 (λ z. omega (arith, q, z, even)))
+        (lt-ltb (pins a + 1) (length n) (omega (arith, q, h)))
+        (ap (λ (i : ℕ). getD n i 0) (sym q))
+        (ap (λ (i : ℕ). getD n (i + 1) 0) (sym q)))
+
+  -- a: the vector's place, even and below 1,024; t: whether memory has all of it
+  long-parity : (t : Bool) (a : ℕ) → ltb (a + 3) (length n) ≡ t → a % 2 ≡ 0 → a < 1024
+      → read-long (view-of n) a k (fresh 0 0) .value % 2 ≡ getD n (a + 3) 0 % 2
+  unfolding read-long
+  long-parity true a h even low =
+      let l = ltb-true (a + 3) (length n) h in
+      let e : plus a 2 ≡ a + 2 = omega (arith, low) in
+      let g : a + 2 + 1 ≡ a + 3 = omega arith in
+      let x = word-at a even (omega (arith, low)) (omega (arith, l)) in
+      let y = word-at (a + 2) (omega (arith, even)) (omega (arith, low)) (omega (arith, l)) in
+      let w = getD n (a + 2) 0 in
+      let b = getD n (a + 3) 0 in
+      let z : read-word (view-of n) (plus a 2) k (read-word (view-of n) a k (fresh 0 0) .flow) .value ≡ w * 256 + b =
+          ap (λ (r : Fetched). read-word (view-of n) (plus a 2) k (r .flow) .value) x
+          ∙ ap (λ (i : ℕ). read-word (view-of n) i k (fresh 0 0) .value) e ∙ ap (λ (r : Fetched). r .value) y
+          ∙ ap (λ (i : ℕ). w * 256 + getD n i 0) g in
+      omega (arith, z)
+  long-parity false a h even low =
+      let l = ltb-false (a + 3) (length n) h in
+      let e : pins (plus a 2) + 1 ≡ a + 3 = omega (arith, low) in
+      let f = read-word (view-of n) a k (fresh 0 0) in
+      let y : read-word (view-of n) (plus a 2) k (f .flow) .value ≡ 0 =
+          word-past (eqb (f .flow .bad) 0) (eqb (pins (plus a 2) % 2) 1) n (plus a 2) k (f .flow) refl refl
+          (ap (λ (i : ℕ). ltb i (length n)) e ∙ h) in
+      let b : getD n (a + 3) 0 ≡ 0 = List·getD-eq-default n 0 {n = a + 3} (omega (arith, l)) in
+      omega (arith, y, b)
+
+pub handler-parity : (n : List ℕ) (vec : ℕ) → handler (view-of n) vec % 2 ≡ getD n (vec % 256 * 4 + 3) 0 % 2
+unfolding handler
+handler-parity n vec =
+    let x = read-long (view-of n) (vec % 256 * 4) 17 (fresh 0 0) .value in
+    let e = long-parity n 17 (ltb (vec % 256 * 4 + 3) (length n)) (vec % 256 * 4) refl (omega arith) (omega arith) in
+    omega (arith, e)
+
+-- ---- whether a handler can be entered: one law for each return
+
+not-odd : (p : ℕ) → p < 2 → not (eqb p 1) ≡ eqb p 0
+not-odd zero h = refl
+not-odd (suc zero) h = refl
+not-odd (suc (suc p)) h = absurd (omega (arith, h))
+
+pub other-enters : (v : View) (vec : ℕ) (j : Bool) → j ≡ of-fault vec → j ≡ false → true ≡ can-enter v vec
+unfolding can-enter
+other-enters v vec j e f = cc
+
+-- n is memory with the frame over it
+module _ (m n : List ℕ) (vec b c : ℕ) (j : Bool) (e : j ≡ of-fault vec) (f : j ≡ true) (o : Over (vec % 256 * 4 + 3) b c m n) where
+  enters-inside : ltb (vec % 256 * 4 + 3) (length m) ≡ true → b ≡ getD m (vec % 256 * 4 + 3) 0 → eqb (c % 2) 0 ≡ can-enter (view-of n) vec
+  unfolding can-enter
+  enters-inside l d =
+      let p = handler-parity n vec in
+      let h = o .byte (ltb-true (vec % 256 * 4 + 3) (length m) l) (sym d) in
+      let k = not-odd (c % 2) (omega arith) in
+      cc
+
+  enters-outside : ltb (vec % 256 * 4 + 3) (length m) ≡ false → true ≡ can-enter (view-of n) vec
+  unfolding can-enter
+  enters-outside l =
+      let p = handler-parity n vec in
+      let q = o .same in
+      let h : getD n (vec % 256 * 4 + 3) 0 ≡ 0 =
+          List·getD-eq-default n 0 {n = vec % 256 * 4 + 3} (omega (arith, q, ltb-false (vec % 256 * 4 + 3) (length m) l)) in
+      cc
+
+module _ (m : List ℕ) (a vec sr pc : ℕ) (j : Bool) (e : j ≡ of-fault vec) (f : j ≡ true) where
+  pub small-enters-inside : (b c : ℕ) → ltb (vec % 256 * 4 + 3) (length m) ≡ true → b ≡ getD m (vec % 256 * 4 + 3) 0
+      → c ≡ under-small (vec % 256 * 4 + 3) b a sr pc → eqb (c % 2) 0 ≡ can-enter (view-of (small-frame m a sr pc)) vec
+  small-enters-inside b c l d g =
+      let i = vec % 256 * 4 + 3 in
+      let k = enters-inside m (small-frame m a sr pc) vec b (under-small i b a sr pc) j e f (over-small i m b a sr pc) l d in cc
+
+  pub small-enters-outside : ltb (vec % 256 * 4 + 3) (length m) ≡ false → true ≡ can-enter (view-of (small-frame m a sr pc)) vec
+  small-enters-outside l =
+      let i = vec % 256 * 4 + 3 in
+      enters-outside m (small-frame m a sr pc) vec 0 (under-small i 0 a sr pc) j e f (over-small i m 0 a sr pc) l
+
+module _ (m : List ℕ) (a bad op sr pc : ℕ) (j : Bool) (e : j ≡ of-fault (bad % 4)) (f : j ≡ true) where
+  pub big-enters-inside : (b c : ℕ) → ltb (bad % 4 % 256 * 4 + 3) (length m) ≡ true → b ≡ getD m (bad % 4 % 256 * 4 + 3) 0
+      → c ≡ under-big (bad % 4 % 256 * 4 + 3) b a bad op sr pc → eqb (c % 2) 0 ≡ can-enter (view-of (big-frame m a bad op sr pc)) (bad % 4)
+  big-enters-inside b c l d g =
+      let i = bad % 4 % 256 * 4 + 3 in
+      let k = enters-inside m (big-frame m a bad op sr pc) (bad % 4) b (under-big i b a bad op sr pc) j e f (over-big i m b a bad op sr pc) l d in cc
+
+  pub big-enters-outside : ltb (bad % 4 % 256 * 4 + 3) (length m) ≡ false → true ≡ can-enter (view-of (big-frame m a bad op sr pc)) (bad % 4)
+  big-enters-outside l =
+      let i = bad % 4 % 256 * 4 + 3 in
+      enters-outside m (big-frame m a bad op sr pc) (bad % 4) 0 (under-big i 0 a bad op sr pc) j e f (over-big i m 0 a bad op sr pc) l

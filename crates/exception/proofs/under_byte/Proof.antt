@@ -1,0 +1,7 @@
+use Rattle.exception.proofs.ExceptionLaws.{under-here, under-elsewhere}
+use borrow.Author.Needs.{needs}
+use Rattle.exception.proofs.under_byte.Statement.{statement}
+use Rattle.exception.proofs.under_byte.Tie as tie
+
+pub under-byte-spec : {M : Type 1} → statement M
+under-byte-spec = tie.close (tie.spec (λ c. search under-here) (λ c. search under-elsewhere))
