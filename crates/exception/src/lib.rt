@@ -150,8 +150,10 @@ pub fn exception(
 {
     let ready = small_ready(s, mem, vec);
     if ready {
+        let old = s[codes::SR];
+        let pc = s[codes::PC];
         let a = bits::minus(s[codes::SSP], 6);
-        let k = small_frame(mem, log, n, a, s[codes::SR], s[codes::PC]);
+        let k = small_frame(mem, log, n, a, old, pc);
         enter(s, mem, a, vec, sr);
         return Ended {
             n: k,
@@ -260,9 +262,9 @@ fn big_ready(s: &[u32; SLOTS], mem: &[u8], bad: u32, op: u32) -> bool
     ensures { λ r. ⌜ r ≡ big-ready (now (s .entry)) (now (mem .entry)) bad op ⌝ }
 {
     let a = bits::minus(s[codes::SSP], 14);
-    let pc = std::num::wrapping_add_u32(s[codes::PC], 2);
+    let saved = std::num::wrapping_add_u32(s[codes::PC], 2);
     let room = big_room(mem, a);
-    let enters = big_enters(mem, a, bad, op, s[codes::SR], pc);
+    let enters = big_enters(mem, a, bad, op, s[codes::SR], saved);
     room & enters
 }
 

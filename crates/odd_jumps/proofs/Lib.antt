@@ -1,2 +1,3 @@
 pub mod FlowLaws
 pub mod OddJumpLaws
+pub mod VectorLaws
