@@ -15,7 +15,7 @@ MOVE = "MOVE.L:Dn>-(An) a "
 FAULT = "MOVE.L:-(An)>-(An) f "
 
 # Lines with wrong clocks: what is altered, the case that it is altered of, and what is added to its clocks (None: the
-# line says 0). Every rule of K2 has one; the numbers are those of Appendix D.
+# line says 0). Every rule of K2 and K3 has one; the numbers are those of Appendix D.
 CLOCKS = (
     ("one-more", MOVE, 1), ("one-fewer", MOVE, -1), ("none", MOVE, None), ("256-more", MOVE, 256),
     ("65536-more", MOVE, 65536), ("10000000-more", MOVE, 10000000), ("fault-none", FAULT, None),
@@ -25,7 +25,9 @@ CLOCKS = (
     ("trace-of-trap-left-out", "TRAP:> t ", -34),
     ("trace-twice", "NOP:> t ", 34), ("trace-that-halts", "MOVEA.W:Dn>An th ", 34), ("halted", "ILLEGAL:> h ", 34),
     ("interrupt-none", "INT:taken> i ", None), ("interrupt-one-more", "INT:taken> i ", 1),
-    ("interrupt-halted", "INT:taken> ih ", 44), ("stopped-none", "INT:stopped-not-taken> i ", None))
+    ("interrupt-halted", "INT:taken> ih ", 44), ("stopped-none", "INT:stopped-not-taken> i ", None),
+    ("odd-jump-with-its-own", "RTS:> 2o ", 16), ("odd-jump-traced", "RTS:> to ", 34),
+    ("odd-handler-of-a-fault", "MOVE.W:(An)>(An) fk ", 50))
 
 STEP_NUMBER = "the step is refused"
 STEP_SLOTS = "slots after the step"

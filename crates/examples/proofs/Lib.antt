@@ -1,2 +1,3 @@
 pub mod PaperLaws
 pub mod ClockLaws
+pub mod OddLaws

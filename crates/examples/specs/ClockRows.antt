@@ -1,6 +1,6 @@
 -- ClockRows.antt - worked examples of clocks, one for each kind of rule: a step by the definition, and what Appendix D's line gives.
 -- The machine is that of Paper.antt: 1,024 bytes, words from $200 on, PC $200, SSP $400; D0, A0, SR as given; every vector 0.
--- Held by: clock-rows-hold of proofs/ClockLaws.antt; the last row is the largest value.  Source: [003 D-1] to [003 D-14], [K2].
+-- Held by: clock-rows-hold of proofs/ClockLaws.antt; the last row is the largest value.  Source: [003 D-1] to [003 D-14], [K2], [K3].
 use Prim.Native.Nat.{ℕ, _+_, _/_, _%_}
 use mathlib.Core.List.{List, [], _∷_}
 use lib.ListN.{set, replicate}
@@ -60,6 +60,7 @@ clock-rows =
     ∷ plain 0 0 0x2000 (0x4E70 ∷ []) 132  -- RESET  [003 D-12]
     ∷ plain 0 0x300 0x2000 (0x0148 ∷ 0 ∷ []) 24  -- MOVEP.L 0(A0),D0  [003 D-13]
     ∷ plain 0 0x301 0x2000 (0x3010 ∷ []) 50  -- MOVE.W (A0),D0 at an odd address: the address error alone  [003 D-14]
+    ∷ plain 0 0x301 0x2000 (0x4ED0 ∷ []) 50  -- JMP (A0) to an odd address: the address error alone  [003 D-14] [K3]
     ∷ plain 0 0 0x2000 (0xA000 ∷ []) 34  -- 1010, as illegal  [003 D-14] [K2]
     ∷ plain 0 0 0x0000 (0x4E72 ∷ 0 ∷ []) 34  -- STOP in user state: the privilege violation alone  [003 D-14] [K2]
     ∷ plain 2 0x300 0x2000 (0x4190 ∷ []) 48  -- CHK (A0),D0 above its bound: 44 + 4  [003 D-14]

@@ -1,2 +1,3 @@
 pub mod Paper
 pub mod ClockRows
+pub mod OddRows
