@@ -68,7 +68,7 @@ enum ibz_slot {
 enum ibz_mode {
   IBZ_MODE_RUNNING = 0,
   IBZ_MODE_STOPPED = 1, /* by STOP: only an interrupt goes on */
-  IBZ_MODE_HALTED = 2   /* an exception's frame could not be written: only undo and reset go on */
+  IBZ_MODE_HALTED = 2   /* an exception could not be taken (IBZ_EVENT_HALT): only undo and reset go on */
 };
 
 /* ---- answers */
@@ -98,8 +98,13 @@ enum ibz_reason {
 };
 
 /* `event` of a step that was done: IBZ_EVENT_NONE, or 1 more than the vector of the first exception that it took, or IBZ_EVENT_HALT
- * where that one's frame could not be written. A trap whose trace then halts the machine gives the trap's event: whether the machine is
- * halted is told by the block's mode. */
+ * where that one could not be taken: its frame could not be written, or its vector was 2 or 3 and held, once the frame would have been
+ * written, an odd address. Then mode alone changes. A trap whose trace then halts the machine gives the trap's event: whether the machine
+ * is halted is told by the block's mode.
+ *
+ * Bcc, BRA, BSR, DBcc, JMP, JSR, RTS, RTR and RTE to an odd address take the address error (vector 3) in their own step: the frame has
+ * the target as its access address, and as its PC the jump's address plus 2 (ibz_get_fault below). Other odd handlers, and a state with
+ * an odd PC, fault when the next word is to be read. */
 #define IBZ_EVENT_NONE 0u
 #define IBZ_EVENT_HALT 257u
 
@@ -108,7 +113,7 @@ enum ibz_reason {
  *   An instruction counts its line with the time of its operands' addresses; a shift, MOVEM and a multiplication by their formulas.
  *   A step that takes an exception other than trace counts the exception's line alone, and CHK's the time of its operand beside it: 34
  *   for an illegal or privileged instruction, line 1010 or 1111 and TRAPV, 38 TRAP, 42 a division by zero, 44 CHK and an interrupt, 50 a
- *   bus or address error. A trace adds 34. An exception or a trace whose frame could not be written, so that the machine halts, counts 0.
+ *   bus or address error. A trace adds 34. An exception or a trace that could not be taken, so that the machine halts, counts 0.
  *   A stopped machine that takes no interrupt counts 4.
  * A step has at most 204, a run the sum of its steps, at most 204,000,000; a call that is refused has 0. An undo gives no clocks: who adds
  * them up keeps the sums that going back is to lead to. */
@@ -177,6 +182,28 @@ static inline void ibz_set(uint8_t *block, unsigned slot, uint32_t value) {
 /* A7 as the program sees it. */
 static inline uint32_t ibz_get_a7(const uint8_t *block) {
   return ibz_get(block, (ibz_get(block, IBZ_SR) & 0x2000u) != 0u ? (unsigned)IBZ_SSP : (unsigned)IBZ_USP);
+}
+
+/* The frame of a bus or address error, which a fault page shows. */
+struct ibz_fault {
+  uint32_t information; /* 16 for a read, 0 for a write, and the function code: 1 user data, 2 user program, 5 and 6 supervisor's */
+  uint32_t address;     /* of the access that failed, 24 bits */
+  uint32_t op;          /* the operation word of the instruction that made it */
+  uint32_t sr;          /* as it was before that instruction */
+  uint32_t pc;          /* that instruction's address plus 2 */
+};
+
+/* Reads the frame at SSP; 0 if none can lie there. It is a fault's after a step with event 3 or 4 that took no interrupt. */
+static inline int ibz_get_fault(const uint8_t *block, const uint8_t *memory, size_t memory_length, struct ibz_fault *fault) {
+  const size_t at = ibz_get(block, IBZ_SSP) & 0xFFFFFFu;
+  if (at % 2u != 0u || memory_length < 14u || at > memory_length - 14u) return 0;
+  const uint8_t *p = memory + at;
+  fault->information = p[1] & 31u;
+  fault->address = (uint32_t)p[3] << 16 | (uint32_t)p[4] << 8 | (uint32_t)p[5];
+  fault->op = (uint32_t)p[6] << 8 | (uint32_t)p[7];
+  fault->sr = (uint32_t)p[8] << 8 | (uint32_t)p[9];
+  fault->pc = (uint32_t)p[10] << 24 | (uint32_t)p[11] << 16 | (uint32_t)p[12] << 8 | (uint32_t)p[13];
+  return 1;
 }
 
 /* A refusal in words. */

@@ -80,6 +80,15 @@ static void show_memory(unsigned long at, unsigned long n) {
   puts("");
 }
 
+/* The page of a fault, from its frame on the stack. */
+static void show_fault(void) {
+  static const char *const codes[] = {"", "user data", "user program", "", "", "supervisor data", "supervisor program", ""};
+  struct ibz_fault f;
+  if (!ibz_get_fault(block, memory, memory_length, &f)) return;
+  printf("          %s at %06X failed, %s; instruction %04X, PC %08X, SR %04X\n", f.information & 16u ? "a read" : "a write",
+         (unsigned)f.address, codes[f.information & 7u], (unsigned)f.op, (unsigned)f.pc, (unsigned)f.sr);
+}
+
 static void show_refusal(uint32_t number) {
   printf("not done: %s (%u)\n", ibz_number_text(number), (unsigned)number);
   if (number == IBZ_JOURNAL_FULL) puts("`back` makes room, and so does `forget`");
@@ -115,6 +124,7 @@ static void noted(size_t next, uint32_t steps, uint32_t more) {
 
 static int step(uint32_t level, uint8_t vector) {
   const unsigned long long before = clocks;
+  const int interrupt = level == IBZ_LEVEL_MOST || level > (ibz_get(block, IBZ_SR) >> 8 & 7u);
   const struct ibz_step_answer a = ibz_step(block, sizeof block, memory, memory_length, level, vector, journal, journal_length, mark);
   if (a.number != IBZ_DONE) {
     show_refusal(a.number);
@@ -123,6 +133,7 @@ static int step(uint32_t level, uint8_t vector) {
   noted(a.mark, 1, a.clocks);
   if (a.event == IBZ_EVENT_HALT) puts("          halted");
   else if (a.event != IBZ_EVENT_NONE) printf("          exception: vector %u\n", (unsigned)a.event - 1u);
+  if (!interrupt && (a.event == 3 || a.event == 4)) show_fault();
   show_place(before);
   return 1;
 }
