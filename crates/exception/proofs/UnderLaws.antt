@@ -3,12 +3,12 @@
 -- Uses: bits, bus.
 use Prim.Native.Nat.{ℕ, zero, suc, _+_, _*_, _%_, _/_, _<_, _≤_}
 use native.Mathlib.Omega.{arith}
-use mathlib.Core.Path.{_≡_, refl, sym, ap, _∙_}
+use mathlib.Core.Path.{_≡_, refl, sym, ap, _∙_, subst}
 use mathlib.Core.Bool.{Bool, true, false, _&&_, _||_, not}
 use mathlib.Core.List.{List}
 use lib.ListN.{getD, set, length, length-set, List·getD-eq-default}
 use lib.Seq.{getD-set-same, getD-set-other}
-use lib.Dec.{eqb, ltb}
+use lib.Dec.{eqb, ltb, leb}
 use borrow.Author.Tests.{eqb-true, eqb-false, ne-eqb, ltb-true, ltb-false, lt-ltb}
 use Rattle.bits.specs.Bits.{pick, plus}
 use Rattle.bus.specs.declared.Flow.{Flow}
@@ -161,14 +161,38 @@ module _ (m : List ℕ) (a vec sr pc : ℕ) (j : Bool) (e : j ≡ of-fault vec) 
       let i = vec % 256 * 4 + 3 in
       enters-outside m (small-frame m a sr pc) vec 0 (under-small i 0 a sr pc) j e f (over-small i m 0 a sr pc) l
 
-module _ (m : List ℕ) (a bad op sr pc : ℕ) (j : Bool) (e : j ≡ of-fault (bad % 4)) (f : j ≡ true) where
-  pub big-enters-inside : (b c : ℕ) → ltb (bad % 4 % 256 * 4 + 3) (length m) ≡ true → b ≡ getD m (bad % 4 % 256 * 4 + 3) 0
-      → c ≡ under-big (bad % 4 % 256 * 4 + 3) b a bad op sr pc → eqb (c % 2) 0 ≡ can-enter (view-of (big-frame m a bad op sr pc)) (bad % 4)
-  big-enters-inside b c l d g =
-      let i = bad % 4 % 256 * 4 + 3 in
-      let k = enters-inside m (big-frame m a bad op sr pc) (bad % 4) b (under-big i b a bad op sr pc) j e f (over-big i m b a bad op sr pc) l d in cc
+-- a fault's vector is below 4
+two-by : (x : ℕ) → x < 4 → of-fault x ≡ leb 2 x
+two-by zero h = refl
+two-by (suc zero) h = refl
+two-by (suc (suc zero)) h = refl
+two-by (suc (suc (suc zero))) h = refl
+two-by (suc (suc (suc (suc x)))) h = absurd (omega (arith, h))
 
-  pub big-enters-outside : ltb (bad % 4 % 256 * 4 + 3) (length m) ≡ false → true ≡ can-enter (view-of (big-frame m a bad op sr pc)) (bad % 4)
-  big-enters-outside l =
+module _ (m : List ℕ) (a bad op sr pc : ℕ) where
+  abbrev end : ℕ
+  end = bad % 4 * 4 + 3
+
+  known : of-fault (bad % 4) ≡ leb 2 (bad % 4)
+  known = two-by (bad % 4) (omega arith)
+
+  cut : bad % 4 % 256 * 4 + 3 ≡ end
+  cut = omega arith
+
+  pub big-enters-inside : (b c : ℕ) → leb 2 (bad % 4) ≡ true → ltb end (length m) ≡ true → b ≡ getD m end 0 → c ≡ under-big end b a bad op sr pc
+      → eqb (c % 2) 0 ≡ can-enter (view-of (big-frame m a bad op sr pc)) (bad % 4)
+  big-enters-inside b c f l d g =
       let i = bad % 4 % 256 * 4 + 3 in
-      enters-outside m (big-frame m a bad op sr pc) (bad % 4) 0 (under-big i 0 a bad op sr pc) j e f (over-big i m 0 a bad op sr pc) l
+      let n = big-frame m a bad op sr pc in
+      let u : under-big i b a bad op sr pc ≡ c = ap (λ (x : ℕ). under-big x b a bad op sr pc) cut ∙ sym g in
+      enters-inside m n (bad % 4) b c true (sym f ∙ sym known) refl (subst (λ (x : ℕ). Over i b x m n) u (over-big i m b a bad op sr pc))
+      (ap (λ (x : ℕ). ltb x (length m)) cut ∙ l) (d ∙ ap (λ (x : ℕ). getD m x 0) (sym cut))
+
+  pub big-enters-outside : leb 2 (bad % 4) ≡ true → ltb end (length m) ≡ false → true ≡ can-enter (view-of (big-frame m a bad op sr pc)) (bad % 4)
+  big-enters-outside f l =
+      let i = bad % 4 % 256 * 4 + 3 in
+      enters-outside m (big-frame m a bad op sr pc) (bad % 4) 0 (under-big i 0 a bad op sr pc) true (sym f ∙ sym known) refl (over-big i m 0 a bad op sr pc)
+      (ap (λ (x : ℕ). ltb x (length m)) cut ∙ l)
+
+  pub big-enters-other : leb 2 (bad % 4) ≡ false → true ≡ can-enter (view-of (big-frame m a bad op sr pc)) (bad % 4)
+  big-enters-other f = other-enters (view-of (big-frame m a bad op sr pc)) (bad % 4) false (sym f ∙ sym known) refl

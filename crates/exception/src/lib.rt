@@ -243,9 +243,9 @@ fn under_big(i: u32, b: u32, a: u32, bad: u32, op: u32, sr: u32, pc: u32) -> u32
 fn big_enters(mem: &[u8], a: u32, bad: u32, op: u32, sr: u32, pc: u32) -> bool
     ensures { λ r. ⌜ r ≡ can-enter (view-of (big-frame (now (mem .entry)) a bad op sr pc)) (bad % 4) ⌝ }
 {
-    let judged = of_fault(bad % 4);
+    let judged = bad % 4 >= 2;
     if judged {
-        let i = bad % 4 % 256 * 4 + 3;
+        let i = bad % 4 * 4 + 3;
         let at = i as usize;
         let inside = at < mem.len();
         if inside {

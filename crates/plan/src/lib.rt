@@ -31,9 +31,13 @@ pub fn flagged(f: Flow, c: u32) -> Flow
 pub fn jump(f: Flow, to: u32) -> Flow
     ensures { λ g. ⌜ g ≡ jump f to ⌝ }
 {
-    let odd = (f.bad == 0) & (to % 2 == 1);
+    let odd = to % 2 == 1;
     if odd {
-        return bus::failed(f, codes::ADDRESS_ERROR, to, codes::PROGRAM_READ);
+        let clean = f.bad == 0;
+        if clean {
+            return bus::failed(f, codes::ADDRESS_ERROR, to, codes::PROGRAM_READ);
+        }
+        return bus::with_pc(f, to);
     }
     bus::with_pc(f, to)
 }
