@@ -13,7 +13,7 @@ use lib.Bits.{bitXor}
 use lib.Count.{onesIn}
 use borrow.Author.Tests.{leb-true, eqb-true}
 use Rattle.bits.specs.Bits.{pick, bit}
-use Rattle.bits.proofs.BitsLaws.{and-left, and-right}
+use Rattle.bits.proofs.BitsLaws.{and-left, and-right, pick-cases}
 use Rattle.flags.specs.Flags.{condition}
 use Rattle.bus.specs.declared.Flow.{Flow}
 use Rattle.bus.specs.Bus.{View, next-word}
@@ -25,10 +25,9 @@ use Rattle.clocks.specs.Clocks.{branched, counted-by, counted, condition
 use Rattle.clocks.specs.Lines.{Line, Alone, Sized, Addressed, Paired, Narrow, Peripheral, Stored, Loaded, Shifted, Moved, Located, Jumped}
 use Rattle.clocks.specs.Lines.{Signed, Unsigned, Bits, Branched, Counted, Conditional, time, lines, last-line, clocks}
 
--- a choice is at most what both ways are
-either : (x : ℕ) (b : Bool) (m n : ℕ) → m ≤ x → n ≤ x → pick b m n ≤ x
-either x true m n p q = p
-either x false m n p q = q
+-- a number that is at most x
+abbrev At-most : ℕ → ℕ → Type 0
+At-most x n = n ≤ x
 
 -- ---- tables
 
@@ -79,12 +78,12 @@ ones-bound (suc d) x = let h = ones-bound d (x / 2) in omega arith
 
 module _ (x a b : ℕ) (p : a ≤ x) (q : b ≤ x) where
   long-bound : (long : Bool) → by-long a b long ≤ x
-  long-bound long = either x long b a q p
+  long-bound long = pick-cases (At-most x) long {x = b} {y = a} q p
 
   narrow-bound : (op : ℕ) → narrow a b op ≤ x + 12
   unfolding narrow general
   narrow-bound op =
-      let o = short-bound op in let e = either x (direct op) (by-long a a false) (by-long b b false) p q in omega arith
+      let o = short-bound op in let e = pick-cases (At-most x) (direct op) {x = by-long a a false} {y = by-long b b false} p q in omega arith
 
   listed-bound : (v : View) (op : ℕ) (f : Flow) → listed a b v op f ≤ 16 * x
   unfolding listed
@@ -99,13 +98,13 @@ module _ (x a b c d : ℕ) (p : a ≤ x) (q : b ≤ x) (s : c ≤ x) (t : d ≤ 
   unfolding general
   general-bound op long =
       let o = operand-bound op long in
-      let e = either x (direct op) (by-long a b long) (by-long c d long) (long-bound x a b p q long) (long-bound x c d s t long) in omega arith
+      let e = pick-cases (At-most x) (direct op) {x = by-long a b long} {y = by-long c d long} (long-bound x a b p q long) (long-bound x c d s t long) in omega arith
 
   paired-bound : (op : ℕ) → paired a b c d op ≤ x
   unfolding paired
   paired-bound op =
       let long = eqb (op / 128 % 2) 1 in
-      either x (eqb (op / 8 % 2) 0) (by-long a b long) (by-long c d long) (long-bound x a b p q long) (long-bound x c d s t long)
+      pick-cases (At-most x) (eqb (op / 8 % 2) 0) {x = by-long a b long} {y = by-long c d long} (long-bound x a b p q long) (long-bound x c d s t long)
 
 moved-bound : (op : ℕ) → moved op ≤ 170
 unfolding moved at-most
@@ -200,17 +199,17 @@ time-bound (Bits a) h r v op f =
     let o = short-bound op in let e = leb-true a 140 h in omega arith
 time-bound (Branched a b c) h r v op f =
     let o = others-of-three 170 a b c h in
-    either 170 (condition (f .sr) (op / 256)) a (pick (eqb (op % 256) 0) c b) (one-of-three 170 a b c h)
-    (either 170 (eqb (op % 256) 0) c b (two-of-two 170 b c o) (one-of-two 170 b c o))
+    pick-cases (At-most 170) (condition (f .sr) (op / 256)) {x = a} {y = pick (eqb (op % 256) 0) c b} (one-of-three 170 a b c h)
+    (pick-cases (At-most 170) (eqb (op % 256) 0) {x = c} {y = b} (two-of-two 170 b c o) (one-of-two 170 b c o))
 time-bound (Counted a b c) h r v op f =
     let o = others-of-three 170 a b c h in
     let spent = eqb (get r (op % 8) % 65536) 0 in
-    either 170 (condition (f .sr) (op / 256)) a (pick spent c b) (one-of-three 170 a b c h)
-    (either 170 spent c b (two-of-two 170 b c o) (one-of-two 170 b c o))
+    pick-cases (At-most 170) (condition (f .sr) (op / 256)) {x = a} {y = pick spent c b} (one-of-three 170 a b c h)
+    (pick-cases (At-most 170) spent {x = c} {y = b} (two-of-two 170 b c o) (one-of-two 170 b c o))
 time-bound (Conditional a b c) h r v op f =
     let o = others-of-three 158 a b c h in
     let w = condition (f .sr) (op / 256) in
-    narrow-bound 158 (pick w b a) c (either 158 w b a (one-of-two 158 b c o) (one-of-three 158 a b c h)) (two-of-two 158 b c o) op
+    narrow-bound 158 (pick w b a) c (pick-cases (At-most 158) w {x = b} {y = a} (one-of-two 158 b c o) (one-of-three 158 a b c h)) (two-of-two 158 b c o) op
 
 all-within : List (ℕ × Line) → Bool
 all-within [] = true

@@ -80,10 +80,10 @@ module _ (n : List ℕ) (k : ℕ) where
   word-at a even low h =
       let q : pins a ≡ a = omega (arith, low) in
       sym (word-inside n a k (fresh 0 0) refl (getD n a 0) (getD n (a + 1) 0)
-        (ne-eqb (pins a % 2) 1 (λ z. omega (arith, q, z, even)))
-        (lt-ltb (pins a + 1) (length n) (omega (arith, q, h)))
-        (ap (λ (i : ℕ). getD n i 0) (sym q))
-        (ap (λ (i : ℕ). getD n (i + 1) 0) (sym q)))
+      (ne-eqb (pins a % 2) 1 (λ z. omega (arith, q, z, even)))
+      (lt-ltb (pins a + 1) (length n) (omega (arith, q, h)))
+      (ap (λ (i : ℕ). getD n i 0) (sym q))
+      (ap (λ (i : ℕ). getD n (i + 1) 0) (sym q)))
 
   -- a: the vector's place, even and below 1,024; t: whether memory has all of it
   long-parity : (t : Bool) (a : ℕ) → ltb (a + 3) (length n) ≡ t → a % 2 ≡ 0 → a < 1024
@@ -98,17 +98,17 @@ module _ (n : List ℕ) (k : ℕ) where
       let w = getD n (a + 2) 0 in
       let b = getD n (a + 3) 0 in
       let z : read-word (view-of n) (plus a 2) k (read-word (view-of n) a k (fresh 0 0) .flow) .value ≡ w * 256 + b =
-          ap (λ (r : Fetched). read-word (view-of n) (plus a 2) k (r .flow) .value) x
-          ∙ ap (λ (i : ℕ). read-word (view-of n) i k (fresh 0 0) .value) e ∙ ap (λ (r : Fetched). r .value) y
-          ∙ ap (λ (i : ℕ). w * 256 + getD n i 0) g in
+      ap (λ (r : Fetched). read-word (view-of n) (plus a 2) k (r .flow) .value) x
+      ∙ ap (λ (i : ℕ). read-word (view-of n) i k (fresh 0 0) .value) e ∙ ap (λ (r : Fetched). r .value) y
+      ∙ ap (λ (i : ℕ). w * 256 + getD n i 0) g in
       omega (arith, z)
   long-parity false a h even low =
       let l = ltb-false (a + 3) (length n) h in
       let e : pins (plus a 2) + 1 ≡ a + 3 = omega (arith, low) in
       let f = read-word (view-of n) a k (fresh 0 0) in
       let y : read-word (view-of n) (plus a 2) k (f .flow) .value ≡ 0 =
-          word-past (eqb (f .flow .bad) 0) (eqb (pins (plus a 2) % 2) 1) n (plus a 2) k (f .flow) refl refl
-          (ap (λ (i : ℕ). ltb i (length n)) e ∙ h) in
+      word-past (eqb (f .flow .bad) 0) (eqb (pins (plus a 2) % 2) 1) n (plus a 2) k (f .flow) refl refl
+      (ap (λ (i : ℕ). ltb i (length n)) e ∙ h) in
       let b : getD n (a + 3) 0 ≡ 0 = List·getD-eq-default n 0 {n = a + 3} (omega (arith, l)) in
       omega (arith, y, b)
 
@@ -146,7 +146,7 @@ module _ (m n : List ℕ) (vec b c : ℕ) (j : Bool) (e : j ≡ of-fault vec) (f
       let p = handler-parity n vec in
       let q = o .same in
       let h : getD n (vec % 256 * 4 + 3) 0 ≡ 0 =
-          List·getD-eq-default n 0 {n = vec % 256 * 4 + 3} (omega (arith, q, ltb-false (vec % 256 * 4 + 3) (length m) l)) in
+      List·getD-eq-default n 0 {n = vec % 256 * 4 + 3} (omega (arith, q, ltb-false (vec % 256 * 4 + 3) (length m) l)) in
       cc
 
 module _ (m : List ℕ) (a vec sr pc : ℕ) (j : Bool) (e : j ≡ of-fault vec) (f : j ≡ true) where

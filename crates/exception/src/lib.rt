@@ -239,7 +239,7 @@ fn under_big(i: u32, b: u32, a: u32, bad: u32, op: u32, sr: u32, pc: u32) -> u32
     under_rest(i, c, std::num::wrapping_add_u32(a, 6), op, sr, pc)
 }
 
-// Whether the handler of a fault can be entered once its frame is written.
+// Whether the handler of a fault can be entered once its frame is written. A fault's vector is below 4: one test is enough.
 fn big_enters(mem: &[u8], a: u32, bad: u32, op: u32, sr: u32, pc: u32) -> bool
     ensures { λ r. ⌜ r ≡ can-enter (view-of (big-frame (now (mem .entry)) a bad op sr pc)) (bad % 4) ⌝ }
 {

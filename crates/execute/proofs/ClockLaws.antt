@@ -1,7 +1,7 @@
 -- ClockLaws.antt - an instruction beside its clocks: one arm of a `match` and its `_`, the families by their first kinds, the kinds asked first.
 -- arm-plan, last-plan, arm-clocks, last-clocks, past-clocks; family-clocks, first-clocks; taken-refused, user-..; own-..; after-.., branch-away; counted-..
 -- Uses: bits, flags, bus, operand, plan, clocks, decode, control.
-use Prim.Native.Nat.{ℕ, zero, suc, _+_, _*_, _%_, _/_, _-_, _<_, _≤_}
+use Prim.Native.Nat.{ℕ, _+_, _*_, _%_, _/_, _-_, _<_, _≤_}
 use native.Mathlib.Omega.{arith}
 use mathlib.Core.Path.{_≡_, refl, sym, ap, _∙_}
 use mathlib.Core.Bool.{Bool, true, false, _||_, not}
@@ -11,7 +11,7 @@ use lib.Seq.{getD-set-same}
 use lib.Dec.{ltb, eqb}
 use borrow.Author.Tests.{ltb-false, lt-ltb, eqb-true, eqb-false, eq-eqb, ne-eqb}
 use Rattle.bits.specs.Bits.{pick, by-size, plus, low, joined, sign-word}
-use Rattle.bits.proofs.BitsLaws.{None-below, case-past}
+use Rattle.bits.proofs.BitsLaws.{None-below, none-below-past, case-past}
 use Rattle.flags.specs.Flags.{condition}
 use Rattle.bus.specs.declared.Flow.{Flow}
 use Rattle.bus.specs.declared.Fetched.{Fetched}
@@ -27,11 +27,6 @@ use Rattle.control.specs.Control as control
 use Rattle.execute.specs.declared.Timed.{Timed}
 use Rattle.execute.specs.Dispatch.{Instruction, refused-plan, as-user, user-clocks, own-clocks, after-branch}
 use Rattle.execute.proofs.DispatchLaws.{same}
-
--- a number that is none of the first n
-beyond : (n j : ℕ) → None-below n j → n ≤ j
-beyond zero j h = omega arith
-beyond (suc n) j h = let a = beyond n j (h .0) in let b = h .1 in omega (arith, a, b)
 
 -- what is taken with its clocks: t is both
 module _ (t : Timed) (p : Plan) (c : ℕ) (e : t ≡ record { plan = p; clocks = c }) where
@@ -69,7 +64,7 @@ module _ (t : Timed) (p : Plan) (c : ℕ) (e : t ≡ record { plan = p; clocks =
 pub last-clocks : (n : ℕ) (t : Timed) (p : Plan) (c : ℕ) → t ≡ record { plan = p; clocks = c } → (r : List ℕ) (v : View) (op : ℕ) (f : Flow) (j b : ℕ)
     → None-below n j → j < n + 1 → c ≡ clocks (b + n) r v op f → t .clocks ≡ clocks (b + j) r v op f
 last-clocks n t p c e r v op f j b h l q =
-    let z = clocks-of t p c e in let y : j ≡ n = omega (arith, beyond n j h, l) in cc
+    let z = clocks-of t p c e in let y : j ≡ n = omega (arith, none-below-past n j h, l) in cc
 
 -- past the last table: every kind has its line
 pub past-clocks : (t : Timed) (p : Plan) (c : ℕ) → t ≡ record { plan = p; clocks = c } → (r : List ℕ) (v : View) (op : ℕ) (f : Flow) (j : ℕ)
@@ -77,7 +72,7 @@ pub past-clocks : (t : Timed) (p : Plan) (c : ℕ) → t ≡ record { plan = p; 
 unfolding clocks
 past-clocks t p c e r v op f j h q =
     clocks-of t p c e ∙ q
-    ∙ ap (λ (l : ℕ × Line). time (l .1) r v op f) (sym (List·getD-eq-default lines last-line {n = 72 + j} (omega (arith, beyond 16 j h))))
+    ∙ ap (λ (l : ℕ × Line). time (l .1) r v op f) (sym (List·getD-eq-default lines last-line {n = 72 + j} (omega (arith, none-below-past 16 j h))))
 
 -- the families by their first kinds
 module _ (b k : ℕ) (g : ltb k b ≡ false) where

@@ -14,11 +14,11 @@ use lib.Dec.{ltb, eqb}
 use borrow.Author.Tests.{eqb-true}
 use Rattle.codes.specs.Codes.{MostSteps}
 use Rattle.bits.specs.Bits.{iter}
+use Rattle.bits.proofs.BitsLaws.{pick-cases}
 use Rattle.bank.specs.Bank.{pc-of, mode-of}
 use Rattle.record.specs.Limits.{longest-record}
 use Rattle.step.specs.Steps.{most-clocks, step-clocks}
 use Rattle.step.proofs.LargestLaws.{largest-step}
-use Rattle.step.proofs.PlacesLaws.{pick-cases}
 use Rattle.machine.specs.declared.StepAnswer.{StepAnswer}
 use Rattle.machine.specs.declared.RunAnswer.{RunAnswer}
 use Rattle.machine.specs.Calls.{StepCall, RunCall, step-number, step-taken, step-call, run-number, running, run-call}

@@ -6,10 +6,10 @@ use mathlib.Core.Path.{_≡_, refl, _∙_}
 use mathlib.Core.List.{List}
 use lib.ListN.{length}
 use lib.Dec.{ltb, eqb}
+use Rattle.bits.proofs.BitsLaws.{pick-cases}
 use Rattle.bank.specs.Bank.{pc-of, mode-of}
 use Rattle.record.specs.Limits.{slot-limit, longest-record}
 use Rattle.record.proofs.KeptLaws.{length-restore}
-use Rattle.step.proofs.PlacesLaws.{pick-cases}
 use Rattle.step.proofs.SlotsLaws.{twenty-of-one-step}
 use Rattle.undo.specs.Undo.{Record, found, none, well-formed, undo-of}
 use Rattle.machine.specs.Calls.{StepCall, RunCall, UndoCall, step-number, step-taken, step-call, run-number, running, run-call, undo-number}

@@ -9,6 +9,7 @@ use lib.ListN.{getD}
 use lib.Dec.{eqb, leb}
 use Rattle.codes.specs.Codes.{Word, Long, A0, Postincrement, StackPointer}
 use Rattle.bits.specs.Bits.{pick, plus, by-size}
+use Rattle.bits.proofs.BitsLaws.{pick-cases}
 use Rattle.bus.specs.declared.Flow.{Flow}
 use Rattle.bus.specs.declared.Fetched.{Fetched}
 use Rattle.bus.specs.Bus.{View, pins, read-word, read-long, read-sized, room, next-word, next-long}
@@ -17,7 +18,6 @@ use Rattle.operand.specs.declared.Operand.{Operand}
 use Rattle.operand.specs.Operands.{in-register, indirect, postincrement, predecrement, displaced, indexed, absolute-word, absolute-long, pc-displaced, pc-indexed}
 use Rattle.operand.specs.Operands.{immediate, special, locate, load, source}
 use Rattle.control.specs.Control.{displacement}
-use Rattle.step.proofs.PlacesLaws.{pick-cases}
 use Rattle.odd_jumps.specs.OddJumps.{Nine, bcc, bra, bsr, dbcc, jmp, jsr, rts, rtr, rte, Leads, leads}
 
 -- what holds of each entry and past the end holds of what a table gives

@@ -136,7 +136,7 @@ module _ (j : Nine) (s m : List ℕ) (level vector : ℕ) (h : OddJump j s m lev
       let x : eqb (f .bad) 0 ≡ true = eq-eqb (f .bad) 0 (h .clean) in
       let y : eqb (to % 2) 1 ≡ true = eq-eqb (to % 2) 1 (h .odd) in
       let z : f .sr ≡ sr-of s =
-          leads-keeps-sr (view-of m) j (bank s) op (word-at-pc s m .flow) ∙ next-word-keeps-sr (view-of m) (fresh (pc-of s) (sr-of s)) in
+      leads-keeps-sr (view-of m) j (bank s) op (word-at-pc s m .flow) ∙ next-word-keeps-sr (view-of m) (fresh (pc-of s) (sr-of s)) in
       cc
 
   executed : execute (bank s) (view-of m) op (word-at-pc s m .flow) ≡ dispatch (kind j) (bank s) (view-of m) op (word-at-pc s m .flow)
@@ -159,8 +159,8 @@ module _ (j : Nine) (s m : List ℕ) (level vector : ℕ) (h : OddJump j s m lev
   checked-fails =
       let e : eqb (plan .flow .bad) 0 ≡ false = ap (λ (i : ℕ). eqb i 0) plan-fails ∙ blame-some in
       let k : (ltb (plan .write) NoWrite || eqb (plan .write) NoWrite) ≡ true =
-          ap (λ (d : Done). ltb (d .p .write) NoWrite || eqb (d .p .write) NoWrite) executed
-          ∙ planned (bank s) (view-of m) op (word-at-pc s m .flow) j (h .made) .small in
+      ap (λ (d : Done). ltb (d .p .write) NoWrite || eqb (d .p .write) NoWrite) executed
+      ∙ planned (bank s) (view-of m) op (word-at-pc s m .flow) j (h .made) .small in
       checked-by (view-of m) plan (eqb (plan .write) NoWrite) (ltb (plan .write) NoWrite) refl refl k e ∙ plan-fails
 
   tried-fails : tried .t .p .flow .bad ≡ blame s to
@@ -191,7 +191,7 @@ module _ (j : Nine) (s m : List ℕ) (level vector : ℕ) (h : OddJump j s m lev
       let o = conclude s m (tried .r) (tried .t) in
       let y : x ≡ o .event = e ∙ ap (λ (w : Stepped). w .event) (sym concluded) in
       let a =
-          concluded-is s m (tried .r) (o .s) (tried .t) (tracing (sr-of s)) x c refl y refl (d (tracing (sr-of s)) (mode-of (o .s))) in
+      concluded-is s m (tried .r) (o .s) (tried .t) (tracing (sr-of s)) x c refl y refl (d (tracing (sr-of s)) (mode-of (o .s))) in
       clocks-instruction s m level vector c (h .quiet) (eq-eqb (mode-of s) 0 (h .running))
       (instruction-clocks-is s s m (bank s) (tried .r) (fresh (pc-of s) (sr-of s)) (tried .t) c refl refl refl refl a)
 
@@ -223,7 +223,7 @@ module _ (j : Nine) (s m : List ℕ) (level vector : ℕ) (h : OddJump j s m lev
       let slots : fault s m (blame s to) op .s ≡ set (set (set (set s 16 a) 17 pc) 18 sr) 19 0 = cc in
       let x : fault s m (blame s to) op .event ≡ 4 = cc in
       let other : (u : List ℕ) (k i y : ℕ) → 15 < k → i < 16 → getD (set u k y) i 0 ≡ getD u i 0 =
-          λ u k i y l q. getD-set-other u k i y 0 (λ z. absurd (omega (arith, z, l, q))) in
+      λ u k i y l q. getD-set-other u k i y 0 (λ z. absurd (omega (arith, z, l, q))) in
       record {
         event = ap (λ (w : Stepped). w .event) fails ∙ x;
         memory = ap (λ (w : Stepped). w .m) fails ∙ cc;
@@ -235,9 +235,9 @@ module _ (j : Nine) (s m : List ℕ) (level vector : ℕ) (h : OddJump j s m lev
         slots = ap (λ (w : Stepped). w .s) fails ∙ slots;
         alone =
             sym (timed 4 50 (sym x)
-              (λ b mode.
-              ended-fault (tried .t) b 4 mode 50 refl faulted refl
-              (ap (λ (i : ℕ). exception-clocks i (tried .t .op)) (sym (ap (λ (i : ℕ). i % 4) tried-fails ∙ v)))));
+            (λ b mode.
+            ended-fault (tried .t) b 4 mode 50 refl faulted refl
+            (ap (λ (i : ℕ). exception-clocks i (tried .t .op)) (sym (ap (λ (i : ℕ). i % 4) tried-fails ∙ v)))));
       }
 
   -- the theorem

@@ -17,7 +17,7 @@ use lib.Dec.{ltb, eqb}
 use borrow.Author.Tests.{eq-eqb, eqb-true, lt-ltb}
 use Rattle.codes.specs.Codes.{Ssp, Pc, Sr, Mode, Running, Halted, Mask, TopLevel, TraceVector, NoVector, StopCode, NoWrite}
 use Rattle.bits.specs.Bits.{pick, plus, minus}
-use Rattle.bits.proofs.BitsLaws.{bit-bound}
+use Rattle.bits.proofs.BitsLaws.{bit-bound, pick-cases}
 use Rattle.flags.specs.Flags.{sr-bits, with-ccr}
 use Rattle.bus.specs.Bus.{View, view-of}
 use Rattle.record.specs.Limits.{slot-limit, byte-limit, valid-status, valid-value, ValidSlots, ValidBytes}
@@ -28,7 +28,7 @@ use Rattle.exception.specs.Exceptions.{Stepped, fresh, supervisor-sr, handler, 
 use Rattle.step.specs.declared.Tried.{Tried}
 use Rattle.step.specs.Steps.{conclude, attempt, commit, trap-of, take-trap, traced, both, carry-out, instruction, interrupt-sr, interrupt}
 use Rattle.step.specs.Steps.{one-step}
-use Rattle.step.proofs.PlacesLaws.{pick-cases, each-at, each-set, Touches, touches-none, touches-then, touches-most, writes-of-small-frame}
+use Rattle.step.proofs.PlacesLaws.{each-at, each-set, Touches, touches-none, touches-then, touches-most, writes-of-small-frame}
 use Rattle.step.proofs.PlacesLaws.{writes-of-big-frame, writes-of-commit}
 use Rattle.step.proofs.SlotsLaws.{Keeps, kept-by-one-step}
 

@@ -7,6 +7,7 @@ use mathlib.Core.Path.{_≡_}
 use mathlib.Core.Bool.{Bool, _&&_, _||_, not}
 use mathlib.Core.List.{List}
 use lib.Dec.{ltb, eqb}
+use Rattle.bits.proofs.BitsLaws.{pick-cases}
 use Rattle.bus.specs.declared.Flow.{Flow}
 use Rattle.bus.specs.Bus.{View, view-of, next-word}
 use Rattle.bank.specs.Bank.{pc-of, sr-of, mode-of, tracing, bank}
@@ -18,7 +19,6 @@ use Rattle.execute.specs.Dispatch.{user-clocks, own-clocks}
 use Rattle.step.specs.declared.Tried.{Tried}
 use Rattle.step.specs.Steps.{attempt, conclude, traced, trap-of, interrupt, trap-clocks, trace-clocks, ended-clocks, concluded-clocks}
 use Rattle.step.specs.Steps.{instruction-clocks, interrupt-clocks, step-clocks, most-clocks}
-use Rattle.step.proofs.PlacesLaws.{pick-cases}
 
 own-bound : (r : List ℕ) (v : View) (op : ℕ) (f : Flow) → own-clocks r v op f ≤ 170
 unfolding own-clocks user-clocks

@@ -11,6 +11,7 @@ use lib.ListN.{length, set, length-set}
 use lib.Dec.{ltb, eqb}
 use Rattle.codes.specs.Codes.{Ssp, Pc, Sr, Mode, Running, Halted, Mask, TopLevel, TraceVector, NoVector, NoWrite}
 use Rattle.bits.specs.Bits.{pick, minus}
+use Rattle.bits.proofs.BitsLaws.{pick-cases}
 use Rattle.bus.specs.Bus.{View, view-of, fault-vector}
 use Rattle.record.specs.Limits.{slot-limit}
 use Rattle.plan.specs.declared.Plan.{Plan}
@@ -19,7 +20,6 @@ use Rattle.exception.specs.Exceptions.{Stepped, fresh, supervisor-sr, handler, 
 use Rattle.step.specs.declared.Tried.{Tried}
 use Rattle.step.specs.Steps.{conclude, attempt, commit, trap-of, take-trap, traced, both, carry-out, instruction, interrupt-sr, interrupt}
 use Rattle.step.specs.Steps.{one-step}
-use Rattle.step.proofs.PlacesLaws.{pick-cases}
 
 pub record Keeps (P : List ℕ → Type 0) : Type 0 where
   pub halting : (s : List ℕ) → P s → P (set s Mode Halted)
