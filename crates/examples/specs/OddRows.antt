@@ -1,7 +1,7 @@
 -- OddRows.antt - worked examples of K3: a step by the definition, and what it must leave of slots and memory, with its event.
 -- The machine is that of Paper.antt: 1,024 bytes, words from $200 on, PC $200; SSP is $300, where words for RTS, RTR and RTE lie; every vector 0.
 -- Held by: odd-rows-hold of proofs/OddLaws.antt.  Source: [003 4.4.9.1], [003 4.4.10], [01 step 7], [01 step 8], [K3].
-use Prim.Native.Nat.{ℕ, _+_}
+use Prim.Native.Nat.{ℕ}
 use mathlib.Core.List.{List, [], _∷_}
 use lib.ListN.{set, replicate}
 use Rattle.exception.specs.Exceptions.{Stepped}

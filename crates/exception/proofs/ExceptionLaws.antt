@@ -1,12 +1,12 @@
 -- ExceptionLaws.antt - one law for each return of the functions of exception.
 -- small-room-is, small-frame-is, under-..-is, small-ready-is, enter-is, exception-.. (slots, memory, event), exception-halts-.., and the same of faults.
 -- Uses: bits, bus, touch, bank.
-use Prim.Native.Nat.{ℕ, _+_, _*_, _%_, _/_, _<_, _^_, _≤_}
+use Prim.Native.Nat.{ℕ, _+_, _*_, _%_, _/_, _<_, _^_}
 use native.Mathlib.Omega.{arith}
 use mathlib.Core.Path.{_≡_}
 use mathlib.Core.Bool.{Bool, true, false, _&&_}
 use mathlib.Core.List.{List}
-use lib.ListN.{getD, set, length}
+use lib.ListN.{set}
 use lib.Dec.{eqb}
 use Rattle.bits.specs.Bits.{plus, minus}
 use Rattle.bank.specs.Bank.{long, ssp-of, pc-of, sr-of}
@@ -15,7 +15,7 @@ use Rattle.bus.specs.declared.Fetched.{Fetched}
 use Rattle.bus.specs.Bus.{View, view-of, pins, read-long, room, put-word, put-long}
 use Rattle.touch.specs.Touch.{LogOk, Noted}
 use Rattle.touch.proofs.TouchLaws.{noted-none, noted-then}
-use Rattle.exception.specs.Exceptions.{Stepped, fresh, supervisor-sr, halted, small-room, small-frame, big-room, fault-access, fault-rest}
+use Rattle.exception.specs.Exceptions.{fresh, supervisor-sr, small-room, small-frame, big-room, fault-access, fault-rest}
 use Rattle.exception.specs.Exceptions.{big-frame, handler, can-enter, small-ready, big-ready, enter, exception, fault-taken, fault}
 use Rattle.exception.specs.Under.{under-byte, under-word, under-long, under-small, under-access, under-rest, under-big}
 

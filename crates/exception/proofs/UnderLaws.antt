@@ -1,10 +1,10 @@
 -- UnderLaws.antt - what `Under` says of a byte is what memory holds once the frame is put; so a handler is odd or even before it is.
 -- over-small, over-big; handler-parity: the last byte of a vector tells; small-enters-.., big-enters-..: one law for each return.
 -- Uses: bits, bus.
-use Prim.Native.Nat.{ℕ, zero, suc, _+_, _*_, _%_, _/_, _<_, _≤_}
+use Prim.Native.Nat.{ℕ, zero, suc, _+_, _*_, _%_, _/_, _<_}
 use native.Mathlib.Omega.{arith}
 use mathlib.Core.Path.{_≡_, refl, sym, ap, _∙_, subst}
-use mathlib.Core.Bool.{Bool, true, false, _&&_, _||_, not}
+use mathlib.Core.Bool.{Bool, true, false, not}
 use mathlib.Core.List.{List}
 use lib.ListN.{getD, set, length, length-set, List·getD-eq-default}
 use lib.Seq.{getD-set-same, getD-set-other}

@@ -4,7 +4,7 @@
 use Prim.Native.Nat.{ℕ, _+_, _*_, _%_}
 use mathlib.Core.Bool.{Bool, _&&_, _||_, not}
 use mathlib.Core.List.{List}
-use lib.ListN.{getD, set}
+use lib.ListN.{set}
 use lib.Dec.{eqb}
 use Rattle.codes.specs.Codes.{Word, Long, Ssp, Pc, Sr, Mode, Running, Halted, Supervisor, BusError, AddressError, HaltEvent, event-of, DataRead}
 use Rattle.bits.specs.Bits.{pick, plus, minus}

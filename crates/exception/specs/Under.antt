@@ -1,7 +1,7 @@
 -- Under.antt - one byte of memory once a frame is put over it: from place, byte and frame alone, so that the code can look before it writes.
 -- Each is named for what is put; i is the place, b the byte there before.
 -- Laws: proofs/UnderLaws.antt (that memory holds it).  Source: [01 step 8], [K3], [ours].
-use Prim.Native.Nat.{ℕ, _+_, _%_, _/_}
+use Prim.Native.Nat.{ℕ, _%_, _/_}
 use lib.Dec.{eqb}
 use Rattle.bits.specs.Bits.{pick, plus}
 use Rattle.bus.specs.Bus.{pins, fault-address, fault-information}

@@ -2,7 +2,6 @@
 // Means: specs/Exceptions.antt, specs/Under.antt.  Laws: proofs/ExceptionLaws.antt, proofs/UnderLaws.antt.
 // Uses: codes, bits, bank, bus, store, touch.  Source: [003 4.3.5], [003 4.4.9], [003 4.4.10], [01 step 1], [01 step 7], [01 step 8], [K3].
 ghost use mathlib.Core.Path.{_≡_};
-ghost use mathlib.Core.Bool.{_||_};
 ghost use Prim.Native.Nat.{ℕ, _+_, _*_, _%_, _/_, _<_, _≤_};
 ghost use lib.ListN.{getD, set, length};
 ghost use Rattle.bus.specs.Bus.{view-of};

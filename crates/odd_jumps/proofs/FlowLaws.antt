@@ -1,14 +1,14 @@
 -- FlowLaws.antt - what is read on the way to a jump's target keeps SR; and a failed flow stays as it is.
 -- next-word-keeps-sr, displacement-.., locate-.., pull-..; leads-keeps-sr: of all nine; room-when-failed.
 -- Uses: bits, bus, operand, control, step.
-use Prim.Native.Nat.{ℕ, zero, suc, _+_, _*_, _%_, _/_}
+use Prim.Native.Nat.{ℕ, zero, suc, _+_, _%_, _/_}
 use mathlib.Core.Path.{_≡_, refl, sym, ap, _∙_}
-use mathlib.Core.Bool.{Bool, true, false}
+use mathlib.Core.Bool.{false}
 use mathlib.Core.List.{List, [], _∷_}
 use lib.ListN.{getD}
 use lib.Dec.{eqb, leb}
 use Rattle.codes.specs.Codes.{Word, Long, A0, Postincrement, StackPointer}
-use Rattle.bits.specs.Bits.{pick, plus, by-size}
+use Rattle.bits.specs.Bits.{plus, by-size}
 use Rattle.bits.proofs.BitsLaws.{pick-cases}
 use Rattle.bus.specs.declared.Flow.{Flow}
 use Rattle.bus.specs.declared.Fetched.{Fetched}
@@ -18,7 +18,7 @@ use Rattle.operand.specs.declared.Operand.{Operand}
 use Rattle.operand.specs.Operands.{in-register, indirect, postincrement, predecrement, displaced, indexed, absolute-word, absolute-long, pc-displaced, pc-indexed}
 use Rattle.operand.specs.Operands.{immediate, special, locate, load, source}
 use Rattle.control.specs.Control.{displacement}
-use Rattle.odd_jumps.specs.OddJumps.{Nine, bcc, bra, bsr, dbcc, jmp, jsr, rts, rtr, rte, Leads, leads}
+use Rattle.odd_jumps.specs.OddJumps.{Nine, bcc, bra, bsr, dbcc, jmp, jsr, rts, rtr, rte, leads}
 
 -- what holds of each entry and past the end holds of what a table gives
 abbrev Every : {A : Type 0} (P : A → Type 0) → List A → Type 0

@@ -1,22 +1,22 @@
 -- OddJumpLaws.antt - K3's theorem: a step that makes one of the nine jumps to an odd address leaves what `AsAsked` says.
--- planned: each of the nine hands its target to `jump`; checked-when-failed; fails: what such a step is; odd-jumps: the theorem.
+-- planned: each of the nine hands its target to `jump`; frame-is: the frame in words; fails: such a step is that fault; odd-jumps: the theorem.
 -- Uses: bits, bus, operand, plan, decode, control, system, bank, exception, clocks, execute, step.
-use Prim.Native.Nat.{ℕ, zero, suc, _+_, _*_, _%_, _/_, _<_, _≤_}
+use Prim.Native.Nat.{ℕ, _%_, _/_, _<_}
 use native.Mathlib.Omega.{arith}
-use mathlib.Core.Path.{_≡_, refl, sym, ap, _∙_, subst}
+use mathlib.Core.Path.{_≡_, refl, sym, ap, _∙_}
 use mathlib.Core.Bool.{Bool, true, false, _&&_, _||_, not}
 use mathlib.Core.List.{List}
 use lib.ListN.{getD, set}
 use lib.Seq.{getD-set-other}
 use lib.Dec.{ltb, eqb}
-use borrow.Author.Tests.{eq-eqb, ne-eqb, eqb-true, eqb-false, lt-ltb, ltb-false}
-use Rattle.codes.specs.Codes.{Ssp, Pc, Sr, Mode, Running, Mask, Supervisor, TopLevel, Addresses, AddressError, HaltEvent, ProgramRead, NoWrite}
+use borrow.Author.Tests.{eq-eqb, ne-eqb}
+use Rattle.codes.specs.Codes.{Supervisor, Addresses, AddressError, ProgramRead, NoWrite}
 use Rattle.codes.specs.Fields.{condition-field, ea-register}
-use Rattle.bits.specs.Bits.{pick, plus, minus}
+use Rattle.bits.specs.Bits.{plus, minus}
 use Rattle.bits.proofs.BitsLaws.{and-left, and-right}
 use Rattle.flags.specs.Flags.{condition}
 use Rattle.bus.specs.declared.Flow.{Flow}
-use Rattle.bus.specs.Bus.{View, view-of, failed, packed, information, next-word, fault-address, fault-information, fault-vector, put-word, put-long}
+use Rattle.bus.specs.Bus.{View, view-of, packed, information, fault-address, fault-information}
 use Rattle.plan.specs.declared.Plan.{Plan}
 use Rattle.plan.specs.Plans.{Done, jump, push}
 use Rattle.decode.specs.Rows.{kind-of, privileged}
@@ -27,8 +27,7 @@ use Rattle.exception.specs.Exceptions.{Stepped, fresh, supervisor-sr, handler, 
 use Rattle.exception.specs.Exceptions.{big-ready, fault-taken, fault}
 use Rattle.clocks.specs.Clocks.{exception-clocks}
 use Rattle.execute.specs.Dispatch.{control-kind, system-kind, dispatch, as-user, execute}
-use Rattle.step.specs.declared.Tried.{Tried}
-use Rattle.step.specs.Steps.{Attempt, checked, attempt, conclude, instruction, one-step, ended-clocks, concluded-clocks, instruction-clocks, step-clocks}
+use Rattle.step.specs.Steps.{Attempt, checked, attempt, conclude, instruction, one-step, ended-clocks, step-clocks}
 use Rattle.step.proofs.StepLaws.{conclude-faults, step-instruction}
 use Rattle.step.proofs.ClockLaws.{ended-halts, ended-fault, concluded-is, instruction-clocks-is, clocks-instruction}
 use Rattle.odd_jumps.specs.OddJumps.{Nine, bcc, bra, bsr, dbcc, jmp, jsr, rts, rtr, rte, kind, Leads, leads, leads-from, word-at-pc, OddJump}
@@ -52,9 +51,7 @@ module _ (r : List ℕ) (v : View) (op : ℕ) (f : Flow) where
   planned-counted : (c e : Bool) → condition (f .sr) (condition-field op) ≡ c → eqb (counted r (ea-register op)) 0xFFFF ≡ e → c ≡ false → e ≡ false
       → Planned (decrement-branch r v op f .p) (leads dbcc r v op f)
   unfolding decrement-branch jump-when
-  planned-counted c e g h c0 e0 =
-      let q = leads dbcc r v op f in
-      record { bad = cc; small = cc }
+  planned-counted c e g h c0 e0 = record { bad = cc; small = cc }
 
   pub planned : (j : Nine) → leads j r v op f .made ≡ true → Planned (dispatch (kind j) r v op f .p) (leads j r v op f)
   unfolding dispatch control-kind system-kind branch-plan jump-when branch-subroutine jump-plan jump-subroutine return-restore return-subroutine return-exception push
@@ -248,5 +245,8 @@ module _ (j : Nine) (s m : List ℕ) (level vector : ℕ) (h : OddJump j s m lev
             λ e o.
             blamed (ready-is ∙ cc (e, ne-eqb (handler (view-of n) 3 % 2) 1 (λ z. omega (arith, z, o))));
         unwritable = λ e. halts (ready-is ∙ cc e);
-        odd-handler = λ o. halts (ready-is ∙ not-ready (big-room (view-of m) (minus (ssp-of s) 14)) (eqb (handler (view-of n) 3 % 2) 1) (eq-eqb (handler (view-of n) 3 % 2) 1 o));
+        odd-handler =
+            λ o.
+            let room = big-room (view-of m) (minus (ssp-of s) 14) in
+            let odd = eqb (handler (view-of n) 3 % 2) 1 in halts (ready-is ∙ not-ready room odd (eq-eqb (handler (view-of n) 3 % 2) 1 o));
       }

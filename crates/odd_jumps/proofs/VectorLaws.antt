@@ -3,7 +3,7 @@
 -- Uses: bits, bus, bank, exception, step.
 use Prim.Native.Nat.{ℕ, _%_, _/_}
 use mathlib.Core.Path.{_≡_, refl, sym, _∙_}
-use mathlib.Core.Bool.{Bool, true, false, _&&_, _||_, not}
+use mathlib.Core.Bool.{Bool, true, false, _&&_, _||_}
 use mathlib.Core.List.{List}
 use lib.Dec.{ltb, eqb}
 use borrow.Author.Tests.{eq-eqb}
@@ -11,7 +11,7 @@ use Rattle.codes.specs.Codes.{Mask, TopLevel, event-of}
 use Rattle.bits.specs.Bits.{plus, minus}
 use Rattle.bus.specs.Bus.{View, view-of, fault-vector}
 use Rattle.bank.specs.Bank.{ssp-of, pc-of, sr-of}
-use Rattle.exception.specs.Exceptions.{Stepped, halted, handler, of-fault, can-enter, enter, small-room, small-frame, small-ready, exception, big-room, big-frame}
+use Rattle.exception.specs.Exceptions.{halted, handler, of-fault, can-enter, enter, small-room, small-frame, small-ready, exception, big-room, big-frame}
 use Rattle.exception.specs.Exceptions.{big-ready, fault}
 use Rattle.step.specs.Steps.{interrupt-sr, interrupt, one-step}
 use Rattle.step.proofs.StepLaws.{step-interrupted}

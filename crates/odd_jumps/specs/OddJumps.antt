@@ -1,14 +1,14 @@
 -- OddJumps.antt - what K3 says of a step: the nine jumps, where each leads, and what the step leaves if that is an odd address.
 -- `Blamed` is in K3's words: event, information word, access address, operation word and saved PC of the frame; all else stays.
 -- Held by: odd-jumps of proofs/OddJumpLaws.antt.  Source: [003 4.4.9.1], [003 4.4.10], [003 B], [003 D-14], [01 step 7], [K3].
-use Prim.Native.Nat.{ℕ, _+_, _*_, _%_, _/_, _<_}
+use Prim.Native.Nat.{ℕ, _%_, _/_, _<_}
 use mathlib.Core.Path.{_≡_}
 use mathlib.Core.Bool.{Bool, true, false, _&&_, _||_, not}
 use mathlib.Core.List.{List}
 use lib.ListN.{getD, set}
 use lib.Dec.{ltb, eqb}
 use Rattle.codes.specs.Codes.{Word, Long, Postincrement, StackPointer, Ssp, Pc, Sr, Mode, Running, Mask, Supervisor, TopLevel, Addresses, AddressError}
-use Rattle.codes.specs.Codes.{HaltEvent, event-of, ProgramRead}
+use Rattle.codes.specs.Codes.{event-of, ProgramRead}
 use Rattle.codes.specs.Fields.{ea-mode, ea-register, condition-field}
 use Rattle.bits.specs.Bits.{plus, minus, sign-word}
 use Rattle.flags.specs.Flags.{condition}
@@ -22,7 +22,6 @@ use Rattle.decode.specs.Rows.{kind-of, privileged}
 use Rattle.control.specs.Control.{displacement, counted}
 use Rattle.bank.specs.Bank.{ssp-of, pc-of, sr-of, mode-of, bank}
 use Rattle.exception.specs.Exceptions.{Stepped, fresh, supervisor-sr, handler, big-room, halted}
-use Rattle.step.specs.Steps.{one-step, step-clocks}
 
 -- the nine jumps, in K3's order  [K3]
 pub data Nine : Type 0 where

@@ -3,7 +3,7 @@
 -- Source: [01 State], [01 One step].
 -- * Keeps P: halting, the entry of an exception and the end of an instruction keep P.
 -- * kept-by-one-step: then a step keeps it. twenty-of-one-step: twenty slots stay twenty, whatever they hold.
-use Prim.Native.Nat.{ℕ, _*_, _/_, _%_}
+use Prim.Native.Nat.{ℕ, _/_, _%_}
 use mathlib.Core.Path.{_≡_, refl, _∙_}
 use mathlib.Core.Bool.{Bool, _||_}
 use mathlib.Core.List.{List}
@@ -15,7 +15,7 @@ use Rattle.bits.proofs.BitsLaws.{pick-cases}
 use Rattle.bus.specs.Bus.{View, view-of, fault-vector}
 use Rattle.record.specs.Limits.{slot-limit}
 use Rattle.plan.specs.declared.Plan.{Plan}
-use Rattle.bank.specs.Bank.{long, ssp-of, pc-of, sr-of, mode-of, tracing, bank, settle}
+use Rattle.bank.specs.Bank.{ssp-of, pc-of, sr-of, mode-of, tracing, bank, settle}
 use Rattle.exception.specs.Exceptions.{Stepped, fresh, supervisor-sr, handler, enter, small-ready, exception, big-ready, fault-taken, fault}
 use Rattle.step.specs.declared.Tried.{Tried}
 use Rattle.step.specs.Steps.{conclude, attempt, commit, trap-of, take-trap, traced, both, carry-out, instruction, interrupt-sr, interrupt}

@@ -1,5 +1,4 @@
 use Rattle.exception.proofs.ExceptionLaws.{under-here, under-elsewhere}
-use borrow.Author.Needs.{needs}
 use Rattle.exception.proofs.under_byte.Statement.{statement}
 use Rattle.exception.proofs.under_byte.Tie as tie
 
