@@ -99,8 +99,8 @@ enum ibz_reason {
 
 /* `event` of a step that was done: IBZ_EVENT_NONE, or 1 more than the vector of the first exception that it took, or IBZ_EVENT_HALT
  * where that one could not be taken: its frame could not be written, or its vector was 2 or 3 and held, once the frame would have been
- * written, an odd address. Then mode alone changes. A trap whose trace then halts the machine gives the trap's event: whether the machine
- * is halted is told by the block's mode.
+ * written, an odd address. Then nothing of that exception is done but that mode is 2. A trap whose trace then halts the machine gives the
+ * trap's event: whether the machine is halted is told by the block's mode.
  *
  * Bcc, BRA, BSR, DBcc, JMP, JSR, RTS, RTR and RTE to an odd address take the address error (vector 3) in their own step: the frame has
  * the target as its access address, and as its PC the jump's address plus 2 (ibz_get_fault below). Other odd handlers, and a state with

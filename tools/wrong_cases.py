@@ -15,7 +15,7 @@ MOVE = "MOVE.L:Dn>-(An) a "
 FAULT = "MOVE.L:-(An)>-(An) f "
 
 # Lines with wrong clocks: what is altered, the case that it is altered of, and what is added to its clocks (None: the
-# line says 0). Every rule of K2 and K3 has one; the numbers are those of Appendix D.
+# line says 0). Every rule on clocks of K2 and K3 has one; the numbers are those of Appendix D.
 CLOCKS = (
     ("one-more", MOVE, 1), ("one-fewer", MOVE, -1), ("none", MOVE, None), ("256-more", MOVE, 256),
     ("65536-more", MOVE, 65536), ("10000000-more", MOVE, 10000000), ("fault-none", FAULT, None),

@@ -2,7 +2,7 @@
 -- clock-rows-hold.
 -- Uses: step and all below it.
 use mathlib.Core.Path.{_≡_, refl}
-use mathlib.Core.List.{[], _∷_, map}
+use mathlib.Core.List.{map}
 use lib.Count as Count
 use Rattle.bits.specs.Bits as Bits
 use Rattle.flags.specs.Flags as Flags

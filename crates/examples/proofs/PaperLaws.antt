@@ -1,7 +1,7 @@
 -- PaperLaws.antt - every example of 01 that is marked P holds: one statement, by computing.
 -- Speaks of: specs/Paper.antt.
 -- Uses: numbers, record, decimal, multiply_divide, step.
-use mathlib.Core.Path.{_≡_, refl}
+use mathlib.Core.Path.{refl}
 use Rattle.bits.specs.Bits as Bits
 use Rattle.flags.specs.Flags as Flags
 use Rattle.bus.specs.Bus as Bus

@@ -1,6 +1,6 @@
 -- FlowLaws.antt - what is read on the way to a jump's target keeps SR; and a failed flow stays as it is.
 -- next-word-keeps-sr, displacement-.., locate-.., pull-..; leads-keeps-sr: of all nine; room-when-failed.
--- Uses: bits, bus, operand, control, step.
+-- Uses: bits, bus, operand, control.
 use Prim.Native.Nat.{ℕ, zero, suc, _+_, _%_, _/_}
 use mathlib.Core.Path.{_≡_, refl, sym, ap, _∙_}
 use mathlib.Core.Bool.{false}

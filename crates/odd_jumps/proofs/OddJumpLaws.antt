@@ -1,7 +1,7 @@
 -- OddJumpLaws.antt - K3's theorem: a step that makes one of the nine jumps to an odd address leaves what `AsAsked` says.
 -- planned: each of the nine hands its target to `jump`; frame-is: the frame in words; fails: such a step is that fault; odd-jumps: the theorem.
 -- Uses: bits, bus, operand, plan, decode, control, system, bank, exception, clocks, execute, step.
-use Prim.Native.Nat.{ℕ, _%_, _/_, _<_}
+use Prim.Native.Nat.{ℕ, _+_, _%_, _/_, _<_}
 use native.Mathlib.Omega.{arith}
 use mathlib.Core.Path.{_≡_, refl, sym, ap, _∙_}
 use mathlib.Core.Bool.{Bool, true, false, _&&_, _||_, not}
@@ -88,11 +88,8 @@ checked-by v p false false g h k e = absurd (let z : _≡_ {A = ℕ} 0 1 = cc in
 abbrev blame : List ℕ → ℕ → ℕ
 blame s to = packed to (information ProgramRead (sr-of s)) AddressError
 
-plus-eight : (a : ℕ) → plus (plus a 6) 2 ≡ plus a 8
-plus-eight a = omega arith
-
-plus-ten : (a : ℕ) → plus (plus a 8) 2 ≡ plus a 10
-plus-ten a = omega arith
+plus-two : (a k : ℕ) → plus (plus a k) 2 ≡ plus a (k + 2)
+plus-two a k = omega arith
 
 module _ (s m : List ℕ) (op to : ℕ) where
   address-is : fault-address (blame s to) ≡ to % Addresses
@@ -106,8 +103,8 @@ module _ (s m : List ℕ) (op to : ℕ) where
   unfolding big-frame fault-rest fault-access small-frame
   frame-is =
       let a = minus (ssp-of s) 14 in
-      let u = plus-eight a in
-      let w = plus-ten a in
+      let u : plus (plus a 6) 2 ≡ plus a 8 = plus-two a 6 in
+      let w : plus (plus a 8) 2 ≡ plus a 10 = plus-two a 8 in
       let x = address-is in
       let y = information-is in
       cc

@@ -71,13 +71,14 @@ pulled-second r v f =
     let c = source r v Postincrement StackPointer Word f in
     pulled (source (c .r) v Postincrement StackPointer Long (c .w .flow) .w)
 
--- each of the nine, from registers, view, operation word and the flow behind it  [003 B] [K3]
+-- each of the nine, from registers, view, operation word and the flow behind it; BRA's condition is T  [003 B] [K3]
 abbrev pub leads : Nine → List ℕ → View → ℕ → Flow → Leads
 leads bcc r v op f = displaced (condition (f .sr) (condition-field op)) f (displacement v op f .value) (displacement v op f .flow)
 leads bra r v op f = displaced (condition (f .sr) (condition-field op)) f (displacement v op f .value) (displacement v op f .flow)
 leads bsr r v op f = displaced true f (displacement v op f .value) (displacement v op f .flow)
 leads dbcc r v op f =
-    displaced (not (condition (f .sr) (condition-field op)) && not (eqb (counted r (ea-register op)) 0xFFFF)) f (sign-word (next-word v f .value)) (next-word v f .flow)
+    let made = not (condition (f .sr) (condition-field op)) && not (eqb (counted r (ea-register op)) 0xFFFF) in
+    displaced made f (sign-word (next-word v f .value)) (next-word v f .flow)
 leads jmp r v op f = addressed (locate r v (ea-mode op) (ea-register op) Long f)
 leads jsr r v op f = addressed (locate r v (ea-mode op) (ea-register op) Long f)
 leads rts r v op f = pulled (source r v Postincrement StackPointer Long f .w)
@@ -111,7 +112,8 @@ blaming s m op to =
     let access = put-long (put-word m a (information ProgramRead (sr-of s))) (plus a 2) (to % Addresses) in
     put-long (put-word (put-word access (plus a 6) op) (plus a 8) (sr-of s)) (plus a 10) (plus (pc-of s) 2)
 
--- the step took the address error; n is memory with the frame, t what the step left  [K3]
+-- the step took the address error, and its clocks are those of the address error alone; n is memory with the frame, t what the step left
+-- [003 D-14] [K3]
 pub record Blamed (s n : List ℕ) (t : Stepped) (clocks : ℕ) : Type 0 where
   pub event : t .event ≡ event-of AddressError
   pub memory : t .m ≡ n
