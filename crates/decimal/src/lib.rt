@@ -1,15 +1,17 @@
 // lib.rt - ABCD, SBCD, NBCD on bytes of any nibbles: result and flags. No registers, no memory.
 // Means: specs/Decimal.antt.  Laws: proofs/DecimalLaws.antt.
-// Uses: flags, bits.  Source: [003 B ABCD SBCD NBCD], [01 Arithmetic].
+// Uses: flags, bits.  Source: [003 B ABCD SBCD NBCD], [01 Arithmetic], [K4].
 ghost use mathlib.Core.Path.{_≡_};
 ghost use Rattle.decimal.specs.Decimal.{decimal-result, decimal-add, decimal-subtract, decimal-negate};
 
-// A decimal result byte with its flags.
-fn decimal_result(v: u32, carry: bool, old: u32) -> flags::Flagged
-    ensures { λ r. ⌜ r ≡ decimal-result v carry old ⌝ }
+// The result byte of a sum or difference, with its flags.
+fn decimal_result(total: u32, carry: bool, old: u32) -> flags::Flagged
+    ensures { λ r. ⌜ r ≡ decimal-result total carry old ⌝ }
 {
+    let v = total % 0x100;
+    let negative = 0x80 <= v;
     let zero = flags::z_of(old) & (v == 0);
-    let c = flags::flags(carry, flags::n_of(old), zero, flags::v_of(old), carry);
+    let c = flags::flags(carry, negative, zero, flags::v_of(old), carry);
     flags::Flagged { value: v, ccr: c }
 }
 
@@ -21,7 +23,7 @@ pub fn decimal_add(a: u32, b: u32, old: u32) -> flags::Flagged
     let more = 9 < low;
     let sum = low + bits::bit(more) * 6 + (a / 16 % 16 + b / 16 % 16) * 16;
     let carry = 159 < sum;
-    decimal_result((sum - bits::bit(carry) * 160) % 256, carry, old)
+    decimal_result(sum - bits::bit(carry) * 160, carry, old)
 }
 
 // Byte a less byte b less X of the flags before.
@@ -32,7 +34,7 @@ pub fn decimal_subtract(a: u32, b: u32, old: u32) -> flags::Flagged
     let less = low < 512;
     let all = low - bits::bit(less) * 6 + a / 16 % 16 * 16 - b / 16 % 16 * 16;
     let carry = all < 512;
-    decimal_result((all + bits::bit(carry) * 160) % 256, carry, old)
+    decimal_result(all + bits::bit(carry) * 160, carry, old)
 }
 
 // 0 less byte a less X of the flags before.

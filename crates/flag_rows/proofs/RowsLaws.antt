@@ -1,6 +1,6 @@
 -- RowsLaws.antt - the theorem of specs/Rows.antt: the flags that the arithmetic of every instruction gives obey its row.
 -- A law for each shape of flags (concluded-obeys .. decimal-obeys; those of division and of shifts stand beside), rows-hold over the list, flags-obey-rows.
--- Uses: bits, flags, alu, decimal, signed, shift.
+-- Uses: bits, flags, alu, decimal, multiply_divide, shift.
 use Prim.Native.Nat.{ℕ, zero, suc, _<_, _%_, _^_}
 use native.Mathlib.Omega.{arith}
 use mathlib.Core.Path.{_≡_, refl, sym}
@@ -86,9 +86,9 @@ check-obeys : (m : Mark) (a b old : ℕ)
 unfolding check
 check-obeys m a b old f = obeys-of-flags _ _ _ _ _ _ _ _ _ refl f refl refl refl
 
-decimal-obeys : (v old : ℕ) (c : Bool) → Obeys decimal-row 0 old (decimal-result v c old)
-unfolding decimal-result
-decimal-obeys v old c = obeys-of-flags _ _ _ _ _ _ _ _ _ refl refl refl refl tt
+decimal-obeys : (t old : ℕ) (c : Bool) → Obeys decimal-row 0 old (decimal-result t c old)
+unfolding decimal-result by-size
+decimal-obeys t old c = obeys-of-flags _ _ _ _ _ _ _ _ _ refl refl refl refl tt
 
 -- every entry of a list is kept to
 infixr 67 _▸_

@@ -1,7 +1,7 @@
 -- Rows.antt - the condition codes of 003, instruction by instruction, each beside the definition that gives its flags.
 -- Not here: those that set no flag (ADDA SUBA MOVEA, ADDQ and SUBQ to An, Bcc BRA BSR DBcc Scc EXG ILLEGAL JMP JSR LEA LINK MOVEM MOVEP NOP PEA
 -- RESET RTS TRAP TRAPV UNLK, MOVE from SR and USP), and those that write CCR or SR whole (ANDI EORI ORI MOVE to CCR and SR, RTE RTR STOP).
--- Theorem: flags-obey-rows of proofs/RowsLaws.antt.  Source: [003 A-1], [003 B], [01 Arithmetic], [01 step 5].
+-- Theorem: flags-obey-rows of proofs/RowsLaws.antt.  Source: [003 A-1], [003 B], [01 Arithmetic], [01 step 5], [K4].
 use Prim.Native.Nat.{_%_, _/_, _^_}
 use mathlib.Core.Bool.{Bool, true, false, _&&_, not}
 use mathlib.Core.List.{List, [], _∷_}
@@ -35,9 +35,9 @@ compare-row = row kept as-result as-result by-formula by-formula
 abbrev pub move-row : Row
 move-row = row kept as-result as-result cleared cleared
 
--- the row of decimal sums and differences  [003 A-1 ABCD, SBCD, NBCD]
+-- the row of decimal sums and differences; N, a U in 003, is by the general rule  [003 A-1 ABCD, SBCD, NBCD] [K4]
 abbrev pub decimal-row : Row
-decimal-row = row as-result undefined cleared-or-kept undefined by-formula
+decimal-row = row as-result as-result cleared-or-kept undefined by-formula
 
 -- the row of a shift that alters X as C  [003 A-1 LSL, LSR, ASR]
 abbrev pub shift-row : Row
@@ -121,7 +121,7 @@ rows =
     ∷ in-case (row kept set-to-1 undefined undefined undefined) below (λ o. 1) (λ o old. check (o .a) (o .b) old)
     ∷ in-case (row kept cleared undefined undefined undefined) (λ o. not (below o) && above o) (λ o. 1) (λ o old. check (o .a) (o .b) old)
     ∷ in-case (row kept undefined undefined undefined undefined) (λ o. not (below o) && not (above o)) (λ o. 1) (λ o old. check (o .a) (o .b) old)
-    -- ABCD, SBCD, NBCD  [003 B ABCD, SBCD, NBCD] [01 Arithmetic]
+    -- ABCD, SBCD, NBCD  [003 B ABCD, SBCD, NBCD] [01 Arithmetic] [K4]
     ∷ always decimal-row (λ o. 0) (λ o old. decimal-add (o .a) (o .b) old)
     ∷ always decimal-row (λ o. 0) (λ o old. decimal-subtract (o .a) (o .b) old)
     ∷ always decimal-row (λ o. 0) (λ o old. decimal-negate (o .a) old)

@@ -6,4 +6,4 @@ use Rattle.decimal.proofs.decimal_result.Tie as tie
 pub decimal-result-spec : {M : Type 1} → statement M
 decimal-result-spec =
     tie.close (tie.spec
-    (λ c κs. search needs) (λ c κs. search needs) (λ c κs. search needs) (λ c κs. search needs) (λ c. search result-is))
+    (λ c κs. search needs) (λ c κs. search needs) (λ c κs. search needs) (λ c. search result-is))
