@@ -7,11 +7,11 @@ Usage: tools/select_vectors.py FOLDER | tools/wrong_cases.py crates/vectors
 
 FOLDER holds the vector files, NAME.vec.gz, a case to a line (crates/vectors/README.md), and beside each k2/NAME.clk.gz,
 the clocks of its cases in the same order, a number to a line: they become the line's field clocks=N. Of the requests
-that change what a step does, k3/NAME.vec.gz has the cases that are then other, with their clocks: each takes the place
-of the case with the same first seven fields. Chosen are, of the cases whose memory is 65,536 bytes or less: all of
-choice, halt, interrupt, oddjump and scope; of every other file three cases of each name, spread evenly over those that
-it has; and what is then still missing of three for each flag string. Where there are fewer than three, all. The choice
-depends on nothing but the files, and keeps their order.
+that change what a step does, k3/NAME.vec.gz and k4/NAME.vec.gz have the cases that are then other, with their clocks:
+each takes the place of the case with the same first seven fields. Chosen are, of the cases whose memory is 65,536 bytes
+or less: all of choice, halt, interrupt, oddjump and scope; of every other file three cases of each name, spread evenly
+over those that it has; and what is then still missing of three for each flag string. Where there are fewer than three,
+all. The choice depends on nothing but the files, and keeps their order.
 """
 import collections
 import gzip
@@ -19,7 +19,7 @@ import pathlib
 import sys
 
 WHOLE = {"choice", "halt", "interrupt", "oddjump", "scope"}
-REPLACED_BY = ("k3",)
+REPLACED_BY = ("k3", "k4")  # in the order in which they came
 GIVEN = 7  # fields that say what a case is; the others say what comes of it
 EACH = 3
 LARGEST = 65536

@@ -29,6 +29,10 @@ CLOCKS = (
     ("odd-jump-with-its-own", "RTS:> 2o ", 16), ("odd-jump-traced", "RTS:> to ", 34),
     ("odd-handler-of-a-fault", "MOVE.W:(An)>(An) fk ", 50))
 
+# ABCD, SBCD and NBCD by 01 alone, where N keeps its value: SR after is as before in that bit.
+DECIMAL = ("ABCD:", "SBCD:", "NBCD:")
+N_BIT = 3
+
 STEP_NUMBER = "the step is refused"
 STEP_SLOTS = "slots after the step"
 STEP_MEMORY = "memory after the step"
@@ -42,6 +46,7 @@ UNDO_MARK = "mark after the undo"
 NO_CASE = "no case"
 
 SLOTS = 20
+SR = 18
 MARK = 1000
 LONGEST = 8192
 
@@ -129,6 +134,15 @@ def step_lines(case, fault):
         yield STEP_JOURNAL, fault.but(f"record-{name}", (RECORD, bytes(with_bit(record, at, bit)).hex()))
 
 
+def sign_lines(cases):
+    """N of the decimal three as it was, where their result alters it."""
+    for begins in DECIMAL:
+        decimal = (Case(c) for c in cases if c.startswith(begins))
+        case = next(c for c in decimal if (c.start[SR] ^ c.slots[SR]) >> N_BIT & 1)
+        changes = case.changes(with_bit(case.slots, SR, N_BIT))
+        yield STEP_SLOTS, case.but(f"{begins[:-1].lower()}-keeps-n", (SLOTS_AFTER, changes))
+
+
 def clocks_lines(cases):
     """The clocks of the step; and lines that say none, where other things are still compared."""
     for name, begins, more in CLOCKS:
@@ -199,6 +213,7 @@ def wrong_lines(cases):
     """What is to be said, and the line, for each."""
     move, fault = (Case(next(c for c in cases if c.startswith(name))) for name in (MOVE, FAULT))
     yield from step_lines(move, fault)
+    yield from sign_lines(cases)
     yield from clocks_lines(cases)
     yield from undo_lines(move)
     for line in no_cases(move):

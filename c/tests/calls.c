@@ -291,12 +291,15 @@ static void examples(void) {
   fresh(0xC3C0); /* MULS D0,D1: $8000 by $8000 */
   ibz_set(block, IBZ_D0, 0x8000), ibz_set(block, IBZ_D1, 0x8000);
   EXPECT(step(0, 0, 0).number == 0 && ibz_get(block, IBZ_D1) == 0x40000000u);
-  static const struct { unsigned word; uint32_t a, b, is, carries; } decimal[] = {
-      {0xC300, 0x99, 0x01, 0x00, 1}, {0x8300, 0x00, 0x01, 0x99, 1}, {0xC300, 0x45, 0x38, 0x83, 0}}; /* ABCD, SBCD D0,D1 */
-  for (unsigned i = 0; i < 3; i++) {
+  /* ABCD and SBCD D0,D1, NBCD D1: D1 and D0 before, D1 and SR after. N is bit 7 of the byte, whatever it was; V keeps its value */
+  static const struct { unsigned word; uint32_t a, b, before, is, after; } decimal[] = {
+      {0xC300, 0x99, 0x01, 0x00, 0x00, 0x11}, {0x8300, 0x00, 0x01, 0x00, 0x99, 0x19}, {0xC300, 0x45, 0x38, 0x00, 0x83, 0x08},
+      {0xC300, 0x41, 0x38, 0x08, 0x79, 0x00}, {0x8300, 0x80, 0x01, 0x0A, 0x79, 0x02}, {0xC300, 0xFF, 0xFF, 0x00, 0x64, 0x11},
+      {0x4801, 0x20, 0x00, 0x02, 0x80, 0x1B}, {0x4801, 0x80, 0x00, 0x08, 0x20, 0x11}, {0x4801, 0x00, 0x00, 0x0C, 0x00, 0x04}};
+  for (unsigned i = 0; i < sizeof decimal / sizeof *decimal; i++) {
     fresh(decimal[i].word);
-    ibz_set(block, IBZ_D1, decimal[i].a), ibz_set(block, IBZ_D0, decimal[i].b);
-    EXPECT(step(0, 0, 0).number == 0 && ibz_get(block, IBZ_D1) == decimal[i].is && (ibz_get(block, IBZ_SR) & 1u) == decimal[i].carries);
+    ibz_set(block, IBZ_D1, decimal[i].a), ibz_set(block, IBZ_D0, decimal[i].b), ibz_set(block, IBZ_SR, decimal[i].before);
+    EXPECT(step(0, 0, 0).number == 0 && ibz_get(block, IBZ_D1) == decimal[i].is && ibz_get(block, IBZ_SR) == decimal[i].after);
   }
   fresh(0x4AFC); /* ILLEGAL with an odd SSP: halts, and nothing else changes */
   ibz_set(block, IBZ_SSP, 0x301);
