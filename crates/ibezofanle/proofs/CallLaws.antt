@@ -7,10 +7,10 @@ use mathlib.Core.Path.{_≡_, ap, subst, _∙_}
 use mathlib.Core.List.{List}
 use lib.ListN.{length}
 use borrow.Author.Tests.{eq-eqb, ne-eqb}
-use Rattle.machine.specs.declared.StepAnswer.{StepAnswer}
-use Rattle.machine.specs.declared.RunAnswer.{RunAnswer}
-use Rattle.machine.specs.declared.UndoAnswer.{UndoAnswer}
-use Rattle.machine.specs.Promises.{ResetPromise, StepPromise, RunPromise, UndoPromise}
+use Rattle.calls.specs.declared.StepAnswer.{StepAnswer}
+use Rattle.calls.specs.declared.RunAnswer.{RunAnswer}
+use Rattle.calls.specs.declared.UndoAnswer.{UndoAnswer}
+use Rattle.calls.specs.Promises.{ResetPromise, StepPromise, RunPromise, UndoPromise}
 use Rattle.block.specs.Block.{block-length, slots-in, block-of}
 use Rattle.ibezofanle.specs.Calls.{no-block, on-block, step-refusal, run-refusal, undo-refusal, ibz-reset, ibz-step, ibz-run, ibz-undo}
 use Rattle.ibezofanle.specs.Promises.{IbzResetPromise, IbzStepPromise, IbzRunPromise, IbzUndoPromise}

@@ -7,9 +7,9 @@ use Prim.Native.Nat.{ℕ}
 use mathlib.Core.Path.{_≡_, refl, ap, sym, _∙_}
 use mathlib.Core.Bool.{Bool, true, false}
 use native.Mathlib.Omega.{arith}
-use Rattle.machine.specs.declared.RunAnswer.{RunAnswer}
-use Rattle.machine.specs.History.{seen, clocks-alone}
-use Rattle.machine.proofs.ClockLaws.{StepClocksFit, RunClocksFit, step-clocks-fit, run-clocks-fit, run-clocks-sum}
+use Rattle.calls.specs.declared.RunAnswer.{RunAnswer}
+use Rattle.calls.specs.History.{seen, clocks-alone}
+use Rattle.calls.proofs.ClockLaws.{StepClocksFit, RunClocksFit, step-clocks-fit, run-clocks-fit, run-clocks-sum}
 use Rattle.ibezofanle.specs.Calls.{block-fits, OnBlock, ibz-step, ibz-run}
 use Rattle.ibezofanle.specs.History.{Box, ibz-stepping, ibz-running, machine-in}
 use Rattle.ibezofanle.proofs.GoingBack.{Lends, lent-in, ibz-running-held}

@@ -15,12 +15,12 @@ use mathlib.Core.Path.{_≡_, refl, sym, ap, _∙_}
 use mathlib.Core.List.{List, [], _∷_}
 use lib.ListN.{length}
 use Rattle.record.specs.Limits.{slot-limit, ValidBytes}
-use Rattle.machine.specs.History.{Machine, Request, Call, step-of, run-of, undo-once, stepping, running-on, undoing, act, number-told, steps-told}
-use Rattle.machine.specs.History.{machine-calls, after, NeverAhead, standing, seen, taken-alone}
-use Rattle.machine.proofs.ValidLaws.{Lent}
-use Rattle.machine.proofs.SlotsLaws.{twenty-of-act}
-use Rattle.machine.proofs.HistoryLaws.{Carries, good-along, after-carried, standing-carried, ahead-carried}
-use Rattle.machine.proofs.GoingBack.{going-back, undo-when-standing}
+use Rattle.calls.specs.History.{Machine, Request, Call, step-of, run-of, undo-once, stepping, running-on, undoing, act, number-told, steps-told}
+use Rattle.calls.specs.History.{machine-calls, after, NeverAhead, standing, seen, taken-alone}
+use Rattle.calls.proofs.ValidLaws.{Lent}
+use Rattle.calls.proofs.SlotsLaws.{twenty-of-act}
+use Rattle.calls.proofs.HistoryLaws.{Carries, good-along, after-carried, standing-carried, ahead-carried}
+use Rattle.calls.proofs.GoingBack.{going-back, undo-when-standing}
 use Rattle.block.specs.Block.{block-length, slots-in, block-of}
 use Rattle.block.proofs.BlockLaws.{length-of-slots, length-of-block, words-of-slots, slots-in-block, block-of-slots-in}
 use Rattle.ibezofanle.specs.Calls.{OnBlock, step-refusal, run-refusal, undo-refusal, ibz-step, ibz-run, ibz-undo}

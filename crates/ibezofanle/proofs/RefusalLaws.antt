@@ -16,13 +16,13 @@ use lib.ListN.{length}
 use borrow.Author.Tests.{eqb-true, eqb-false, eq-eqb, ne-eqb}
 use Rattle.bits.specs.Bits.{pick}
 use Rattle.record.specs.Limits.{ValidBytes}
-use Rattle.machine.specs.declared.StepAnswer.{StepAnswer}
-use Rattle.machine.specs.declared.RunAnswer.{RunAnswer}
-use Rattle.machine.specs.declared.UndoAnswer.{UndoAnswer}
-use Rattle.machine.specs.Calls.{StepCall, RunCall, UndoCall, refused-slots, reset-number, step-call, run-call, undo-call}
-use Rattle.machine.specs.Refusals.{Line, Given, zero-at-end, this, later, NoneApplies, reset-table, step-table, run-table, undo-table}
-use Rattle.machine.proofs.RefusalLaws.{Lowest, Verdict, given-unique, reset-verdict, step-verdict, run-verdict, undo-verdict}
-use Rattle.machine.proofs.RefusalLaws.{reset-refused, step-refused, run-refused, undo-refused}
+use Rattle.calls.specs.declared.StepAnswer.{StepAnswer}
+use Rattle.calls.specs.declared.RunAnswer.{RunAnswer}
+use Rattle.calls.specs.declared.UndoAnswer.{UndoAnswer}
+use Rattle.calls.specs.Calls.{StepCall, RunCall, UndoCall, refused-slots, reset-number, step-call, run-call, undo-call}
+use Rattle.calls.specs.Refusals.{Line, Given, zero-at-end, this, later, NoneApplies, reset-table, step-table, run-table, undo-table}
+use Rattle.calls.proofs.RefusalLaws.{Lowest, Verdict, given-unique, reset-verdict, step-verdict, run-verdict, undo-verdict}
+use Rattle.calls.proofs.RefusalLaws.{reset-refused, step-refused, run-refused, undo-refused}
 use Rattle.block.specs.Block.{block-length, slots-in, block-of}
 use Rattle.ibezofanle.specs.Calls.{no-block, block-fits, IbzReset, OnBlock, on-block, step-refusal, run-refusal, undo-refusal}
 use Rattle.ibezofanle.specs.Calls.{ibz-reset, ibz-step, ibz-run, ibz-undo}

@@ -7,10 +7,10 @@ use mathlib.Core.List.{List}
 use lib.ListN.{length}
 use lib.Dec.{eqb}
 use Rattle.bits.specs.Bits.{pick}
-use Rattle.machine.specs.declared.StepAnswer.{StepAnswer}
-use Rattle.machine.specs.declared.RunAnswer.{RunAnswer}
-use Rattle.machine.specs.declared.UndoAnswer.{UndoAnswer}
-use Rattle.machine.specs.Calls.{reset-number, reset-call, step-call, run-call, undo-call}
+use Rattle.calls.specs.declared.StepAnswer.{StepAnswer}
+use Rattle.calls.specs.declared.RunAnswer.{RunAnswer}
+use Rattle.calls.specs.declared.UndoAnswer.{UndoAnswer}
+use Rattle.calls.specs.Calls.{reset-number, reset-call, step-call, run-call, undo-call}
 use Rattle.ibezofanle.specs.declared.ResetAnswer.{ResetAnswer}
 use Rattle.block.specs.Block.{block-length, slots-in, block-of}
 

@@ -3,10 +3,10 @@
 -- Uses: block, machine.  Laws: proofs/GoingBack.antt.  Source: [K1], [00 demand 3].
 use Prim.Native.Nat.{ℕ}
 use mathlib.Core.List.{List}
-use Rattle.machine.specs.declared.StepAnswer.{StepAnswer}
-use Rattle.machine.specs.declared.RunAnswer.{RunAnswer}
-use Rattle.machine.specs.declared.UndoAnswer.{UndoAnswer}
-use Rattle.machine.specs.History.{Machine, Call, step-of, run-of, undo-once, Calls, Seen}
+use Rattle.calls.specs.declared.StepAnswer.{StepAnswer}
+use Rattle.calls.specs.declared.RunAnswer.{RunAnswer}
+use Rattle.calls.specs.declared.UndoAnswer.{UndoAnswer}
+use Rattle.calls.specs.History.{Machine, Call, step-of, run-of, undo-once, Calls, Seen}
 use Rattle.block.specs.Block.{slots-in, block-of}
 use Rattle.ibezofanle.specs.Calls.{OnBlock, ibz-step, ibz-run, ibz-undo}
 

@@ -5,7 +5,7 @@ use Prim.Native.Nat.{ℕ}
 use mathlib.Core.Path.{_≡_}
 use mathlib.Core.List.{List, _∷_}
 use lib.ListN.{length}
-use Rattle.machine.specs.Refusals.{Line, reset-table, step-table, run-table, undo-table}
+use Rattle.calls.specs.Refusals.{Line, reset-table, step-table, run-table, undo-table}
 use Rattle.block.specs.Block.{block-length, slots-in}
 use Rattle.ibezofanle.specs.Calls.{no-block}
 

@@ -3,10 +3,10 @@
 // Uses: block, machine.  Declared for C in c/ibezofanle.h.  Source: [K1], [K2].
 ghost use Rattle.ibezofanle.specs.Promises.{IbzResetPromise, IbzStepPromise, IbzRunPromise, IbzUndoPromise};
 use block::BLOCK_LENGTH;
+use calls::RunAnswer;
+use calls::StepAnswer;
+use calls::UndoAnswer;
 use machine::NO_CLOCKS;
-use machine::RunAnswer;
-use machine::StepAnswer;
-use machine::UndoAnswer;
 
 // The refusal of a block that is not 80 bytes long.
 const NO_BLOCK: u32 = 9;

@@ -1,82 +1,50 @@
--- CallLaws.antt - the laws that the calls' functions cite: a refusal given or passed over, reset's slots, a step that is taken.
--- refuse, pass, refuse-not, pass-not; state-fits-is; reset-slots-is, reset-done, reset-misfit; taken; step-.., run-.., undo-.. of the public calls.
--- Uses: bits, bus, bank, record, touch, undo, exception, step.
-use Prim.Native.Nat.{ℕ, zero, suc, _+_, _-_, _%_, _≤_, _<_, _^_}
+-- CallLaws.antt - the laws that the calls cite: a reset done or refused, a step that is taken, and what each public call promises.
+-- reset-done, reset-misfit; valid-lent, log-ready, log-done, record-fits, taken; step-.., run-.., undo-.. of the public calls.
+-- Uses: bits, record, touch, undo, step, calls.
+use Prim.Native.Nat.{ℕ, _+_, _-_, _≤_, _<_, _^_}
 use native.Mathlib.Omega.{arith}
-use mathlib.Core.Path.{_≡_, refl, sym, ap, _∙_}
-use mathlib.Core.Bool.{Bool, true, false, _&&_, not}
-use mathlib.Core.List.{List, [], _∷_}
+use mathlib.Core.Path.{_≡_, sym, ap, _∙_}
+use mathlib.Core.Bool.{Bool, true, false}
+use mathlib.Core.List.{List}
 use lib.ListN.{length, getD}
-use lib.Dec.{ltb, leb, eqb}
-use borrow.Author.Tests.{eqb-true, ltb-true, ltb-false, leb-true}
+use lib.Dec.{eqb}
+use borrow.Author.Tests.{eqb-true}
 use Rattle.codes.specs.Codes.{MostSteps}
-use Rattle.bits.specs.Bits.{pick}
-use Rattle.bus.specs.declared.Flow.{Flow}
-use Rattle.bus.specs.declared.Fetched.{Fetched}
-use Rattle.bus.specs.Bus.{view-of, read-long}
-use Rattle.bank.specs.Bank.{long, pc-of, sr-of, mode-of}
-use Rattle.exception.specs.Exceptions.{Stepped, fresh}
 use Rattle.step.specs.Steps.{one-step, step-clocks}
 use Rattle.numbers.specs.Number.{written}
 use Rattle.numbers.proofs.WrittenLaws.{length-written}
-use Rattle.record.specs.Limits.{slot-limit, byte-limit, longest-record, valid-status, ValidSlots, ValidBytes}
-use Rattle.record.specs.Change.{Ascending, ByteOlds, changes, restore, step-record}
+use Rattle.record.specs.Limits.{slot-limit, byte-limit, longest-record}
+use Rattle.record.specs.Change.{Ascending, changes, restore, step-record}
 use Rattle.record.proofs.SizeLaws.{valid-slots-from, valid-bytes-from}
 use Rattle.touch.specs.Touch.{LogOk, Noted}
 use Rattle.touch.proofs.TouchLaws.{log-start}
 use Rattle.undo.specs.declared.Answer.{Answer}
-use Rattle.undo.specs.declared.Answer.the-variants.{Done, Refused}
-use Rattle.undo.specs.Undo.{Outcome, undo-of}
-use Rattle.machine.specs.declared.StepAnswer.{StepAnswer}
-use Rattle.machine.specs.declared.RunAnswer.{RunAnswer}
-use Rattle.machine.specs.declared.UndoAnswer.{UndoAnswer}
+use Rattle.undo.specs.Undo.{undo-of}
+use Rattle.calls.specs.declared.StepAnswer.{StepAnswer}
+use Rattle.calls.specs.declared.RunAnswer.{RunAnswer}
+use Rattle.calls.specs.declared.UndoAnswer.{UndoAnswer}
 use Rattle.machine.specs.Loop.{GoesOn}
-use Rattle.machine.proofs.ValidLaws.{Valid, state-inv, fits-inv, state-fits-when, valid-after-step, record-room}
-use Rattle.machine.specs.Promises.{StepPromise, RunPromise, UndoPromise}
-use Rattle.machine.proofs.RefusalLaws.{step-inv, run-inv}
-use Rattle.machine.specs.Calls.{StepCall, RunCall, memory-fits, state-fits, reset-slots, refused-slots, reset-number, reset-call, step-number}
-use Rattle.machine.specs.Calls.{step-taken, step-call, run-number, running, run-call, undo-number, undo-answer, undo-call}
-
--- a refusal is given, or passed over, by its test or by the contrary of its test
-module _ {A : Type 0} (b : Bool) (x y r : A) where
-  pub refuse : b ≡ true → r ≡ x → r ≡ pick b x y
-  refuse t e = cc
-
-  pub pass : b ≡ false → r ≡ y → r ≡ pick b x y
-  pass t e = cc
-
-module _ {A : Type 0} (b c : Bool) (x y r : A) (d : c ≡ b) where
-  pub refuse-not : not c ≡ true → r ≡ x → r ≡ pick (not b) x y
-  refuse-not t e = let f : not b ≡ true = ap not (sym d) ∙ t in cc
-
-  pub pass-not : not c ≡ false → r ≡ y → r ≡ pick (not b) x y
-  pass-not t e = let f : not b ≡ false = ap not (sym d) ∙ t in cc
-
-pub state-fits-is : (s : List ℕ) (b : Bool) → b ≡ valid-status (sr-of s) → (b && leb (mode-of s) 2) ≡ state-fits s
-state-fits-is s b e = cc
+use Rattle.calls.proofs.ValidLaws.{Valid, state-inv, fits-inv, state-fits-when, valid-after-step, record-room}
+use Rattle.calls.specs.Promises.{StepPromise, RunPromise, UndoPromise}
+use Rattle.calls.proofs.RefusalLaws.{step-inv, run-inv}
+use Rattle.calls.specs.Calls.{StepCall, RunCall, memory-fits, state-fits, reset-slots, refused-slots, reset-number, reset-call, step-number}
+use Rattle.calls.specs.Calls.{step-taken, step-call, run-number, running, run-call, undo-number, undo-answer, undo-call}
 
 -- reset
-module _ (m : List ℕ) where
-  pub reset-slots-is : (d e : Flow) (x y : Fetched) → d ≡ fresh 0 0 → x ≡ read-long (view-of m) 0 17 d → e ≡ fresh 0 0 → y ≡ read-long (view-of m) 4 17 e → x .value < 2 ^ 32 → y .value < 2 ^ 32
-      → (0 ∷ 0 ∷ 0 ∷ 0 ∷ 0 ∷ 0 ∷ 0 ∷ 0 ∷ 0 ∷ 0 ∷ 0 ∷ 0 ∷ 0 ∷ 0 ∷ 0 ∷ 0 ∷ x .value ∷ y .value ∷ 9984 ∷ 0 ∷ []) ≡ reset-slots m
-  reset-slots-is d e x y p q r t h k =
-      let a : x .value ≡ long (x .value) = omega arith in
-      let b : y .value ≡ long (y .value) = omega arith in cc
+module _ (m : List ℕ) (b : Bool) (e : b ≡ memory-fits m) where
+  pub reset-done : (n : List ℕ) → b ≡ true → n ≡ reset-slots m → n ≡ reset-call m
+  unfolding reset-call
+  reset-done n t d = cc
 
-  module _ (b : Bool) (e : b ≡ memory-fits m) where
-    pub reset-done : (n : List ℕ) → b ≡ true → n ≡ reset-slots m → n ≡ reset-call m
-    unfolding reset-call
-    reset-done n t d = cc
+  pub reset-done-number : b ≡ true → 0 ≡ reset-number m
+  reset-done-number t = cc
 
-    pub reset-done-number : b ≡ true → 0 ≡ reset-number m
-    reset-done-number t = cc
+  pub reset-misfit : (n : List ℕ) → b ≡ false → n ≡ refused-slots → n ≡ reset-call m
+  unfolding reset-call
+  reset-misfit n t d = cc
 
-    pub reset-misfit : b ≡ false → refused-slots ≡ reset-call m
-    unfolding reset-call
-    reset-misfit t = cc
-
-    pub reset-misfit-number : b ≡ false → 1 ≡ reset-number m
-    reset-misfit-number t = cc
+  pub reset-misfit-number : b ≡ false → 1 ≡ reset-number m
+  reset-misfit-number t = cc
 
 -- what is lent and fits is valid
 pub valid-lent : (s m : List ℕ) → length s ≡ slot-limit → ((k : ℕ) → getD s k 0 < 2 ^ 32) → ((k : ℕ) → getD m k 0 < 256) → memory-fits m ≡ true → state-fits s ≡ true → Valid s m
@@ -129,14 +97,6 @@ module _ (s m j l : List ℕ) (level vector mark : ℕ) (valid : Valid s m) (roo
         let w = e .1 .1 .1 .1 in
         let y = q .0 ∙ ap (λ (b : List ℕ). mark + length b) recorded in
         (e .0, (e .1 .0, (q .1 ∙ ap (written j mark) recorded, (rw (x, y, w), goes-on))))
-
--- undo's answer
-module _ (mark : ℕ) (a : Answer) where
-  pub undo-answer-done : (start : ℕ) → a ≡ Done start → record { number = 0; mark = start } ≡ undo-answer mark a
-  undo-answer-done start e = rw e
-
-  pub undo-answer-refused : a ≡ Refused → record { number = 8; mark = mark } ≡ undo-answer mark a
-  undo-answer-refused e = rw e
 
 -- a log that has room for a step
 pub log-ready : (m l : List ℕ) → memory-fits m ≡ true → byte-limit ≤ length l → LogOk m l 0 × (70 ≤ length l)

@@ -1,14 +1,2 @@
-pub mod ValidLaws
-pub mod RefusalLaws
-pub mod FormedLaws
-pub mod StatusLaws
-pub mod PromiseLaws
-pub mod SlotsLaws
-pub mod ActLaws
-pub mod FrameLaws
-pub mod RunLaws
-pub mod ClockLaws
-pub mod GoingBack
-pub mod HistoryLaws
 pub mod CallLaws
 pub mod LoopLaws

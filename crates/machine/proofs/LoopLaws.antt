@@ -1,24 +1,22 @@
 -- LoopLaws.antt - the loop of a run: what is left of it, done now, gives the whole run's answer, and the sum of the clocks fits.
 -- Going, going-start, going-again; going-spent and the four other reasons; going-requires, going-sum.
 -- Uses: bits, bank, record, step.
-use Prim.Native.Nat.{ℕ, zero, suc, _+_, _-_, _*_, _≤_, _<_, _^_}
+use Prim.Native.Nat.{ℕ, suc, _+_, _-_, _*_, _≤_, _<_, _^_}
 use native.Mathlib.Omega.{arith}
-use mathlib.Core.Path.{_≡_, refl, sym, ap, _∙_}
-use mathlib.Core.Bool.{Bool, true, false}
+use mathlib.Core.Path.{_≡_, refl, ap, _∙_}
+use mathlib.Core.Bool.{true, false}
 use mathlib.Core.List.{List}
-use lib.ListN.{length, getD}
+use lib.ListN.{length}
 use lib.Dec.{ltb, leb, eqb}
 use borrow.Author.Tests.{leb-true, leb-false, ltb-false}
 use Rattle.codes.specs.Codes.{MostSteps}
-use Rattle.bits.specs.Bits.{pick}
 use Rattle.bank.specs.Bank.{pc-of, mode-of}
 use Rattle.record.specs.Limits.{byte-limit, longest-record}
 use Rattle.step.specs.Steps.{most-clocks, step-clocks}
 use Rattle.step.proofs.LargestLaws.{largest-step}
-use Rattle.machine.specs.declared.StepAnswer.{StepAnswer}
-use Rattle.machine.specs.declared.RunAnswer.{RunAnswer}
+use Rattle.calls.specs.declared.StepAnswer.{StepAnswer}
 use Rattle.machine.specs.Loop.{GoesOn}
-use Rattle.machine.specs.Calls.{memory-fits, state-fits, step-taken, RunCall, ended, running}
+use Rattle.calls.specs.Calls.{memory-fits, state-fits, step-taken, RunCall, ended, running}
 
 -- at the loop's head, n steps of c clocks done: what is left of the run gives its answer, and a step can be taken
 pub record Going (b stop : ℕ) (s₀ m₀ j₀ : List ℕ) (mark₀ : ℕ) (l₀ s m j : List ℕ) (mark : ℕ) (l : List ℕ) (n c : ℕ) : Type 0 where

@@ -1,5 +1,1 @@
-pub mod Calls
-pub mod Refusals
-pub mod Promises
-pub mod History
 pub mod Loop

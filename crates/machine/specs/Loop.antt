@@ -6,7 +6,7 @@ use mathlib.Core.Path.{_≡_}
 use mathlib.Core.Bool.{true}
 use mathlib.Core.List.{List}
 use lib.ListN.{length}
-use Rattle.machine.specs.Calls.{memory-fits, state-fits}
+use Rattle.calls.specs.Calls.{memory-fits, state-fits}
 
 -- slots s₁ after the step; memory, journal and log before and after; the mark after  [ours]
 pub record GoesOn (s₁ m m₁ j j₁ l l₁ : List ℕ) (mark : ℕ) : Type 0 where

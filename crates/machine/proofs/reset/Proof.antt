@@ -7,4 +7,4 @@ pub reset-spec : {M : Type 1} → statement M
 reset-spec =
     tie.close (tie.spec
     (λ c κs. search needs) (λ c κs. search needs) (λ c. record { slots = search reset-done; number-is = search reset-done-number })
-    (λ c. record { slots = search reset-misfit; number-is = search reset-misfit-number }))
+    (λ c κs. search needs) (λ c. record { slots = search reset-misfit; number-is = search reset-misfit-number }))

@@ -1,6 +1,6 @@
 use denote.Ref.{now}
 use Rattle.machine.proofs.CallLaws.{valid-lent, log-ready, log-done, record-fits, taken}
-use Rattle.machine.proofs.ValidLaws.{Valid}
+use Rattle.calls.proofs.ValidLaws.{Valid}
 use borrow.Author.Needs.{needs}
 use Rattle.machine.proofs.step_taken.Statement.{statement}
 use Rattle.machine.proofs.step_taken.Tie as tie

@@ -12,9 +12,9 @@ use Rattle.record.specs.Limits.{slot-limit, longest-record}
 use Rattle.record.proofs.KeptLaws.{length-restore}
 use Rattle.step.proofs.SlotsLaws.{twenty-of-one-step}
 use Rattle.undo.specs.Undo.{Record, found, none, well-formed, undo-of}
-use Rattle.machine.specs.Calls.{StepCall, RunCall, UndoCall, step-number, step-taken, step-call, run-number, running, run-call, undo-number}
-use Rattle.machine.specs.Calls.{undo-call}
-use Rattle.machine.specs.History.{Machine, Call, step-of, run-of, undo-once, act}
+use Rattle.calls.specs.Calls.{StepCall, RunCall, UndoCall, step-number, step-taken, step-call, run-number, running, run-call, undo-number}
+use Rattle.calls.specs.Calls.{undo-call}
+use Rattle.calls.specs.History.{Machine, Call, step-of, run-of, undo-once, act}
 
 module _ (s m : List ℕ) (h : length s ≡ slot-limit) where
   twenty-of-step : (level vector : ℕ) (j : List ℕ) (mark : ℕ) → length (step-call s m level vector j mark .s) ≡ slot-limit

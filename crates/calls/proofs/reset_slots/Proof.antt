@@ -1,7 +1,7 @@
-use Rattle.machine.proofs.CallLaws.{reset-slots-is}
+use Rattle.calls.proofs.NumberLaws.{reset-slots-is}
 use borrow.Author.Needs.{needs}
-use Rattle.machine.proofs.reset_slots.Statement.{statement}
-use Rattle.machine.proofs.reset_slots.Tie as tie
+use Rattle.calls.proofs.reset_slots.Statement.{statement}
+use Rattle.calls.proofs.reset_slots.Tie as tie
 
 pub reset-slots-spec : {M : Type 1} → statement M
 reset-slots-spec =

@@ -18,13 +18,13 @@ use Rattle.bits.specs.Bits.{iter}
 use Rattle.bank.specs.Bank.{pc-of, mode-of}
 use Rattle.record.specs.Limits.{longest-record}
 use Rattle.record.specs.Change.{diffs}
-use Rattle.machine.specs.Calls.{memory-fits, state-fits, StepCall, RunCall, step-taken, ended, running}
-use Rattle.machine.specs.Refusals.{Line, Given, this, later, NoneApplies, reasons}
-use Rattle.machine.specs.History.{Machine, Request, step-of, run-of, stepping, running-on, act, seen}
-use Rattle.machine.proofs.ValidLaws.{Lent, Valid, lent-when-valid, valid-when-accepted, state-fits-when}
-use Rattle.machine.proofs.RefusalLaws.{step-call-number, step-accepted, step-number-when, run-inv, run-call-number, run-accepted}
-use Rattle.machine.proofs.ActLaws.{act-step, step-valid, valid-after, lent-after}
-use Rattle.machine.proofs.FrameLaws.{Framed, framed-refl, framed-trans, NotAmong, step-frame, step-memory}
+use Rattle.calls.specs.Calls.{memory-fits, state-fits, StepCall, RunCall, step-taken, ended, running}
+use Rattle.calls.specs.Refusals.{Line, Given, this, later, NoneApplies, reasons}
+use Rattle.calls.specs.History.{Machine, Request, step-of, run-of, stepping, running-on, act, seen}
+use Rattle.calls.proofs.ValidLaws.{Lent, Valid, lent-when-valid, valid-when-accepted, state-fits-when}
+use Rattle.calls.proofs.RefusalLaws.{step-call-number, step-accepted, step-number-when, run-inv, run-call-number, run-accepted}
+use Rattle.calls.proofs.ActLaws.{act-step, step-valid, valid-after, lent-after}
+use Rattle.calls.proofs.FrameLaws.{Framed, framed-refl, framed-trans, NotAmong, step-frame, step-memory}
 
 -- one step call with level 0
 abbrev pub plain : Request

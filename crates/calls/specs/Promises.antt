@@ -4,10 +4,10 @@
 use Prim.Native.Nat.{ℕ}
 use mathlib.Core.Path.{_≡_}
 use mathlib.Core.List.{List}
-use Rattle.machine.specs.declared.StepAnswer.{StepAnswer}
-use Rattle.machine.specs.declared.RunAnswer.{RunAnswer}
-use Rattle.machine.specs.declared.UndoAnswer.{UndoAnswer}
-use Rattle.machine.specs.Calls.{reset-number, reset-call, step-call, run-call, undo-call}
+use Rattle.calls.specs.declared.StepAnswer.{StepAnswer}
+use Rattle.calls.specs.declared.RunAnswer.{RunAnswer}
+use Rattle.calls.specs.declared.UndoAnswer.{UndoAnswer}
+use Rattle.calls.specs.Calls.{reset-number, reset-call, step-call, run-call, undo-call}
 
 -- reset: the slots and the number; memory is lent to be read only  [01 Calls, Reset]
 pub record ResetPromise (m s′ : List ℕ) (number : ℕ) : Type 0 where

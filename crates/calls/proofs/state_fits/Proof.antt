@@ -1,7 +1,7 @@
-use Rattle.machine.proofs.CallLaws.{state-fits-is}
+use Rattle.calls.proofs.NumberLaws.{state-fits-is}
 use borrow.Author.Needs.{needs}
-use Rattle.machine.proofs.state_fits.Statement.{statement}
-use Rattle.machine.proofs.state_fits.Tie as tie
+use Rattle.calls.proofs.state_fits.Statement.{statement}
+use Rattle.calls.proofs.state_fits.Tie as tie
 
 pub state-fits-spec : {M : Type 1} → statement M
 state-fits-spec =

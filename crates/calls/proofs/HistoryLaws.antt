@@ -6,8 +6,8 @@ use mathlib.Core.Path.{_≡_, refl, sym, ap, _∙_}
 use mathlib.Core.List.{List, [], _∷_}
 use lib.Dec.{eqb}
 use Rattle.bits.specs.Bits.{pick, iter}
-use Rattle.machine.specs.History.{Request, Call, step-of, run-of, undo-once, all-but-last, plain-step}
-use Rattle.machine.specs.History.{Calls, after, accepted, undone, NeverAhead, left-by, standing}
+use Rattle.calls.specs.History.{Request, Call, step-of, run-of, undo-once, all-but-last, plain-step}
+use Rattle.calls.specs.History.{Calls, after, accepted, undone, NeverAhead, left-by, standing}
 
 -- j's calls on an X that is Good are k's on its image by f
 pub record Carries {X Y : Type 0} (j : Calls X) (k : Calls Y) (f : X → Y) (Good : X → Type 0) : Type 0 where

@@ -21,7 +21,7 @@ use Rattle.record.proofs.SizeLaws.{record-length, valid-slots-from}
 use Rattle.step.specs.Steps.{one-step}
 use Rattle.step.proofs.PlacesLaws.{each-at}
 use Rattle.step.proofs.KeepLaws.{Kept, one-step-keeps}
-use Rattle.machine.specs.Calls.{memory-fits, state-fits}
+use Rattle.calls.specs.Calls.{memory-fits, state-fits}
 
 -- anything that is lent: twenty slots of 32 bits, and bytes
 pub record Lent (s m : List ℕ) : Type 0 where

@@ -15,11 +15,11 @@ use Rattle.numbers.specs.Number.{groups, number-bytes, written}
 use Rattle.record.specs.Limits.{longest-record}
 use Rattle.record.specs.Change.{Change, changes-bytes, record-of, diffs}
 use Rattle.step.specs.Steps.{one-step}
-use Rattle.machine.specs.Calls.{StepCall, RunCall, UndoCall, step-number, step-taken}
-use Rattle.machine.specs.History.{Machine, Request, step-of, run-of, undo-once, stepping, running-on, undoing, act, Seen, seen, record-after}
-use Rattle.machine.specs.History.{one-more}
-use Rattle.machine.proofs.ValidLaws.{Lent, Valid, lent-when-valid, valid-when-accepted, valid-after-step, record-room}
-use Rattle.machine.proofs.RefusalLaws.{step-call-number, step-accepted, step-refused, run-refused, undo-refused, step-inv}
+use Rattle.calls.specs.Calls.{StepCall, RunCall, UndoCall, step-number, step-taken}
+use Rattle.calls.specs.History.{Machine, Request, step-of, run-of, undo-once, stepping, running-on, undoing, act, Seen, seen, record-after}
+use Rattle.calls.specs.History.{one-more}
+use Rattle.calls.proofs.ValidLaws.{Lent, Valid, lent-when-valid, valid-when-accepted, valid-after-step, record-room}
+use Rattle.calls.proofs.RefusalLaws.{step-call-number, step-accepted, step-refused, run-refused, undo-refused, step-inv}
 
 -- a machine by what is seen of it and its journal
 abbrev pub machine-at : Seen → List ℕ → Machine

@@ -19,10 +19,10 @@ use Rattle.undo.specs.declared.Answer.the-variants.{Done}
 use Rattle.undo.proofs.ReadLaws.{length-back}
 use Rattle.undo.proofs.UndoLaws.{undo-when-found}
 use Rattle.undo.proofs.FormedLaws.{formed-when-found, found-when-formed, start-of-formed, none-when-unformed}
-use Rattle.machine.specs.Calls.{memory-fits, state-fits, undo-number, undo-call}
-use Rattle.machine.specs.Refusals.{Line, this, later, NoneApplies, BadMemory, BadState, memory-line, state-line, mark-line}
-use Rattle.machine.proofs.ValidLaws.{fits-inv}
-use Rattle.machine.proofs.RefusalLaws.{bad-memory-when, bad-state-when, undo-verdict, undo-accepted, undo-number-when}
+use Rattle.calls.specs.Calls.{memory-fits, state-fits, undo-number, undo-call}
+use Rattle.calls.specs.Refusals.{Line, this, later, NoneApplies, BadMemory, BadState, memory-line, state-line, mark-line}
+use Rattle.calls.proofs.ValidLaws.{fits-inv}
+use Rattle.calls.proofs.RefusalLaws.{bad-memory-when, bad-state-when, undo-verdict, undo-accepted, undo-number-when}
 
 -- the lines of undo's table before the last: 1, 2, 4 and 7
 abbrev pub undo-table-before-8 : List ℕ → List ℕ → List ℕ → ℕ → List Line

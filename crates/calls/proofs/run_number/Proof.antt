@@ -1,8 +1,8 @@
-use Rattle.machine.proofs.CallLaws.{pass, pass-not, refuse, refuse-not}
-use Rattle.machine.specs.Calls.{run-number}
+use Rattle.calls.proofs.NumberLaws.{pass, pass-not, refuse, refuse-not}
+use Rattle.calls.specs.Calls.{run-number}
 use borrow.Author.Needs.{needs}
-use Rattle.machine.proofs.run_number.Statement.{statement}
-use Rattle.machine.proofs.run_number.Tie as tie
+use Rattle.calls.proofs.run_number.Statement.{statement}
+use Rattle.calls.proofs.run_number.Tie as tie
 
 pub run-number-spec : {M : Type 1} → statement M
 unfolding run-number

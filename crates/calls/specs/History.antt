@@ -8,7 +8,7 @@ use lib.Dec.{eqb}
 use Rattle.bits.specs.Bits.{pick, iter}
 use Rattle.step.specs.Steps.{one-step, step-clocks}
 use Rattle.record.specs.Change.{step-record}
-use Rattle.machine.specs.Calls.{StepCall, RunCall, UndoCall, step-call, run-call, undo-call}
+use Rattle.calls.specs.Calls.{StepCall, RunCall, UndoCall, step-call, run-call, undo-call}
 
 -- what the calls are lent, and the mark  [01 Calls]
 pub record Machine : Type 0 where

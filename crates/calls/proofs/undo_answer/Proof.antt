@@ -1,7 +1,7 @@
-use Rattle.machine.proofs.CallLaws.{undo-answer-done, undo-answer-refused}
+use Rattle.calls.proofs.NumberLaws.{undo-answer-done, undo-answer-refused}
 use borrow.Author.Needs.{needs}
-use Rattle.machine.proofs.undo_answer.Statement.{statement}
-use Rattle.machine.proofs.undo_answer.Tie as tie
+use Rattle.calls.proofs.undo_answer.Statement.{statement}
+use Rattle.calls.proofs.undo_answer.Tie as tie
 
 pub undo-answer-spec : {M : Type 1} → statement M
 undo-answer-spec =

@@ -19,14 +19,14 @@ use Rattle.bank.specs.Bank.{pc-of, mode-of}
 use Rattle.record.specs.Limits.{longest-record}
 use Rattle.step.specs.Steps.{most-clocks, step-clocks}
 use Rattle.step.proofs.LargestLaws.{largest-step}
-use Rattle.machine.specs.declared.StepAnswer.{StepAnswer}
-use Rattle.machine.specs.declared.RunAnswer.{RunAnswer}
-use Rattle.machine.specs.Calls.{StepCall, RunCall, step-number, step-taken, step-call, run-number, running, run-call}
-use Rattle.machine.specs.History.{Machine, stepping, running-on, seen, clocks-alone}
-use Rattle.machine.proofs.ValidLaws.{Lent}
-use Rattle.machine.proofs.RefusalLaws.{step-accepted, run-inv}
-use Rattle.machine.proofs.ActLaws.{act-step}
-use Rattle.machine.proofs.RunLaws.{plain, one, clocks-in, run-as-steps}
+use Rattle.calls.specs.declared.StepAnswer.{StepAnswer}
+use Rattle.calls.specs.declared.RunAnswer.{RunAnswer}
+use Rattle.calls.specs.Calls.{StepCall, RunCall, step-number, step-taken, step-call, run-number, running, run-call}
+use Rattle.calls.specs.History.{Machine, stepping, running-on, seen, clocks-alone}
+use Rattle.calls.proofs.ValidLaws.{Lent}
+use Rattle.calls.proofs.RefusalLaws.{step-accepted, run-inv}
+use Rattle.calls.proofs.ActLaws.{act-step}
+use Rattle.calls.proofs.RunLaws.{plain, one, clocks-in, run-as-steps}
 
 -- ---- a step
 pub step-tells-clocks : (level vector : ℕ) (x : Machine) → stepping level vector x .a .number ≡ 0

@@ -21,10 +21,10 @@ use Rattle.record.proofs.ChangeLaws.{changed-cases}
 use Rattle.step.proofs.KeepLaws.{Kept}
 use Rattle.undo.specs.Undo.{found, well-formed}
 use Rattle.undo.proofs.UndoLaws.{undo-when-found}
-use Rattle.machine.specs.Calls.{undo-number, undo-call}
-use Rattle.machine.specs.History.{Machine, Request, step-of, stepping, act, seen, record-after, one-more}
-use Rattle.machine.proofs.ValidLaws.{Lent, kept-by}
-use Rattle.machine.proofs.ActLaws.{act-step, step-room, step-valid}
+use Rattle.calls.specs.Calls.{undo-number, undo-call}
+use Rattle.calls.specs.History.{Machine, Request, step-of, stepping, act, seen, record-after, one-more}
+use Rattle.calls.proofs.ValidLaws.{Lent, kept-by}
+use Rattle.calls.proofs.ActLaws.{act-step, step-room, step-valid}
 
 -- ---- bytes written into a list
 module _ (l : List ℕ) (at : ℕ) (bs : List ℕ) (inside : at ≤ length l) where

@@ -18,9 +18,9 @@ use Rattle.record.specs.Change.{step-record}
 use Rattle.undo.specs.declared.Answer.{Answer}
 use Rattle.undo.specs.declared.Answer.the-variants.{Done, Refused}
 use Rattle.undo.specs.Undo.{undo-of}
-use Rattle.machine.specs.declared.StepAnswer.{StepAnswer}
-use Rattle.machine.specs.declared.RunAnswer.{RunAnswer}
-use Rattle.machine.specs.declared.UndoAnswer.{UndoAnswer}
+use Rattle.calls.specs.declared.StepAnswer.{StepAnswer}
+use Rattle.calls.specs.declared.RunAnswer.{RunAnswer}
+use Rattle.calls.specs.declared.UndoAnswer.{UndoAnswer}
 
 -- refusal 1 is given exactly when this does not hold: an even length, not too short and not too long  [01 Calls, table]
 abbrev pub memory-fits : List ℕ → Bool

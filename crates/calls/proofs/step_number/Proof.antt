@@ -4,11 +4,11 @@ use denote.Ref.{now}
 use lib.Dec.{eqb}
 use Rattle.bits.specs.Bits.{pick}
 use Rattle.bank.specs.Bank.{mode-of}
-use Rattle.machine.proofs.CallLaws.{pass, pass-not, refuse, refuse-not}
-use Rattle.machine.specs.Calls.{step-number}
+use Rattle.calls.proofs.NumberLaws.{pass, pass-not, refuse, refuse-not}
+use Rattle.calls.specs.Calls.{step-number}
 use borrow.Author.Needs.{needs}
-use Rattle.machine.proofs.step_number.Statement.{statement}
-use Rattle.machine.proofs.step_number.Tie as tie
+use Rattle.calls.proofs.step_number.Statement.{statement}
+use Rattle.calls.proofs.step_number.Tie as tie
 
 -- after five tests that are passed the sixth decides: `search` does not go so deep
 passed : (c : tie.Else5) {r : ℕ}

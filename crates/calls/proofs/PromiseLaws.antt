@@ -4,10 +4,10 @@
 use Prim.Native.Nat.{ℕ}
 use mathlib.Core.Path.{_≡_}
 use mathlib.Core.List.{List}
-use Rattle.machine.specs.declared.StepAnswer.{StepAnswer}
-use Rattle.machine.specs.declared.RunAnswer.{RunAnswer}
-use Rattle.machine.specs.declared.UndoAnswer.{UndoAnswer}
-use Rattle.machine.specs.Promises.{ResetPromise, StepPromise, RunPromise, UndoPromise}
+use Rattle.calls.specs.declared.StepAnswer.{StepAnswer}
+use Rattle.calls.specs.declared.RunAnswer.{RunAnswer}
+use Rattle.calls.specs.declared.UndoAnswer.{UndoAnswer}
+use Rattle.calls.specs.Promises.{ResetPromise, StepPromise, RunPromise, UndoPromise}
 
 pub reset-unique : (m s₁ s₂ : List ℕ) (n₁ n₂ : ℕ) → ResetPromise m s₁ n₁ → ResetPromise m s₂ n₂ → (s₁ ≡ s₂) × (n₁ ≡ n₂)
 reset-unique m s₁ s₂ n₁ n₂ p q = (cc, cc)

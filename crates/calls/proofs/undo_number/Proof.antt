@@ -1,8 +1,8 @@
-use Rattle.machine.proofs.CallLaws.{pass, pass-not, refuse, refuse-not}
-use Rattle.machine.specs.Calls.{undo-number}
+use Rattle.calls.proofs.NumberLaws.{pass, pass-not, refuse, refuse-not}
+use Rattle.calls.specs.Calls.{undo-number}
 use borrow.Author.Needs.{needs}
-use Rattle.machine.proofs.undo_number.Statement.{statement}
-use Rattle.machine.proofs.undo_number.Tie as tie
+use Rattle.calls.proofs.undo_number.Statement.{statement}
+use Rattle.calls.proofs.undo_number.Tie as tie
 
 pub undo-number-spec : {M : Type 1} → statement M
 unfolding undo-number

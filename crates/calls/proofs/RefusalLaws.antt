@@ -22,12 +22,12 @@ use Rattle.undo.specs.declared.Answer.{Answer}
 use Rattle.undo.specs.declared.Answer.the-variants.{Done, Refused}
 use Rattle.undo.specs.Undo.{Outcome, none, well-formed, undo-of}
 use Rattle.undo.proofs.UndoLaws.{undo-when-none, none-when-refused}
-use Rattle.machine.specs.Calls.{StepCall, RunCall, memory-fits, state-fits, reset-number, reset-call, refused-slots, step-number, step-taken}
-use Rattle.machine.specs.Calls.{step-call}
-use Rattle.machine.specs.Calls.{run-number, running, run-call, undo-number, undo-answer, undo-call}
-use Rattle.machine.specs.Refusals.{Line, Given, zero-at-end, this, later, NoneApplies, BadMemory, odd, short, long, BadState, stray-bit}
-use Rattle.machine.specs.Refusals.{no-mode, memory-line, state-line, reset-table, step-table, run-table, undo-table}
-use Rattle.machine.proofs.ValidLaws.{fits-inv, state-inv}
+use Rattle.calls.specs.Calls.{StepCall, RunCall, memory-fits, state-fits, reset-number, reset-call, refused-slots, step-number, step-taken}
+use Rattle.calls.specs.Calls.{step-call}
+use Rattle.calls.specs.Calls.{run-number, running, run-call, undo-number, undo-answer, undo-call}
+use Rattle.calls.specs.Refusals.{Line, Given, zero-at-end, this, later, NoneApplies, BadMemory, odd, short, long, BadState, stray-bit}
+use Rattle.calls.specs.Refusals.{no-mode, memory-line, state-line, reset-table, step-table, run-table, undo-table}
+use Rattle.calls.proofs.ValidLaws.{fits-inv, state-inv}
 
 -- ---- a table gives one number
 pub given-unique : (t : List Line) (n k : ℕ) → Given t n → Given t k → n ≡ k

@@ -25,14 +25,14 @@ use Rattle.step.specs.Steps.{one-step}
 use Rattle.undo.specs.Undo.{undo-of}
 use Rattle.undo.specs.declared.Answer.the-variants.{Done}
 use Rattle.undo.proofs.UndoLaws.{undo-of-record, undo-by-back, back-below}
-use Rattle.machine.specs.Calls.{RunCall, UndoCall}
-use Rattle.machine.specs.History.{Machine, Request, Call, step-of, run-of, undo-once, stepping, running-on, undoing, act, machine-calls, after}
-use Rattle.machine.specs.History.{accepted, undone, NeverAhead, plain-step, left-by, standing, Seen, seen, record-after, one-more, taken-alone}
-use Rattle.machine.proofs.ValidLaws.{Lent, Valid, kept-by, state-fits-when, small-enough}
-use Rattle.machine.proofs.RefusalLaws.{run-refused, undo-accepted, undo-number-when}
-use Rattle.machine.proofs.ActLaws.{machine-at, act-step, act-step-refused, act-run-refused, act-undo-refused, step-valid, step-room}
-use Rattle.machine.proofs.ActLaws.{valid-after, lent-after, record-after-some}
-use Rattle.machine.proofs.RunLaws.{one, plain, run-as-steps}
+use Rattle.calls.specs.Calls.{RunCall, UndoCall}
+use Rattle.calls.specs.History.{Machine, Request, Call, step-of, run-of, undo-once, stepping, running-on, undoing, act, machine-calls, after}
+use Rattle.calls.specs.History.{accepted, undone, NeverAhead, plain-step, left-by, standing, Seen, seen, record-after, one-more, taken-alone}
+use Rattle.calls.proofs.ValidLaws.{Lent, Valid, kept-by, state-fits-when, small-enough}
+use Rattle.calls.proofs.RefusalLaws.{run-refused, undo-accepted, undo-number-when}
+use Rattle.calls.proofs.ActLaws.{machine-at, act-step, act-step-refused, act-run-refused, act-undo-refused, step-valid, step-room}
+use Rattle.calls.proofs.ActLaws.{valid-after, lent-after, record-after-some}
+use Rattle.calls.proofs.RunLaws.{one, plain, run-as-steps}
 
 mark-after : (r : Request) (a : Seen) → one-more r a .mark ≡ a .mark + length (record-after r a)
 unfolding one-more

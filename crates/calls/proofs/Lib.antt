@@ -1,0 +1,13 @@
+pub mod ValidLaws
+pub mod NumberLaws
+pub mod RefusalLaws
+pub mod FormedLaws
+pub mod StatusLaws
+pub mod PromiseLaws
+pub mod SlotsLaws
+pub mod ActLaws
+pub mod FrameLaws
+pub mod RunLaws
+pub mod ClockLaws
+pub mod GoingBack
+pub mod HistoryLaws

@@ -1,0 +1,4 @@
+pub mod Calls
+pub mod Refusals
+pub mod Promises
+pub mod History

@@ -1,0 +1,215 @@
+// lib.rt - what the calls of the machine answer: the answers' types, the numbers of their refusals, and all of a call that takes no step.
+// Means: specs/Calls.antt.  Laws: proofs/NumberLaws.antt. The theorems about the four calls stand in proofs/ too.
+// Uses: codes, bus, record, undo, exception.  Source: [01 Calls and what they give back], [01 The journal], [K2].
+ghost use mathlib.Core.Path.{_≡_};
+ghost use Rattle.calls.specs.Calls.{memory-fits, state-fits, reset-slots, refused-slots, step-number, run-number, undo-number, undo-answer};
+use codes::SLOTS;
+use record::limits::LONGEST_RECORD;
+use undo::Answer;
+
+// The answers are C's structs: the calls from C (crate ibezofanle) hand them on, and c/ibezofanle.h declares them. New members go to
+// the end.
+
+// A step's answer: the refusal's number or 0; the event: 0 nothing, 1 more than the vector that was taken first, 257 a halt; the mark;
+// and the clocks that the step took, 0 where it is refused.
+#[repr(C)]
+pub struct StepAnswer {
+    pub number: u32,
+    pub event: u32,
+    pub mark: usize,
+    pub clocks: u32,
+}
+
+// A run's answer: the refusal's number or 0, the reason why it ended, the mark, the number of steps done, and the sum of their clocks.
+#[repr(C)]
+pub struct RunAnswer {
+    pub number: u32,
+    pub reason: u32,
+    pub mark: usize,
+    pub steps: u32,
+    pub clocks: u32,
+}
+
+// An undo's answer: the refusal's number or 0, and the mark.
+#[repr(C)]
+pub struct UndoAnswer {
+    pub number: u32,
+    pub mark: usize,
+}
+
+// Whether memory is of a length that no call refuses.
+pub fn memory_fits(memory: &[u8]) -> bool
+    ensures { λ r. ⌜ r ≡ memory-fits (now (memory .entry)) ⌝ }
+{
+    let n = memory.len();
+    (n % 2 == 0) & (codes::LEAST_MEMORY <= n) & (n <= codes::MOST_MEMORY)
+}
+
+// Whether SR and mode are ones that no call refuses.
+pub fn state_fits(slots: &[u32; SLOTS]) -> bool
+    ensures { λ r. ⌜ r ≡ state-fits (now (slots .entry)) ⌝ }
+{
+    let mode = slots[codes::MODE];
+    let status = record::limits::valid_status(slots[codes::SR]);
+    status & (mode <= codes::HALTED)
+}
+
+// SSP from address 0, PC from 4, SR $2700.
+pub fn reset_slots(memory: &[u8]) -> [u32; SLOTS]
+    ensures { λ r. ⌜ r ≡ reset-slots (now (memory .entry)) ⌝ }
+{
+    let ssp = bus::read_long(memory, 0, codes::DATA_READ, exception::fresh(0, 0));
+    let pc = bus::read_long(memory, 4, codes::DATA_READ, exception::fresh(0, 0));
+    [
+        0,
+        0,
+        0,
+        0,
+        0,
+        0,
+        0,
+        0,
+        0,
+        0,
+        0,
+        0,
+        0,
+        0,
+        0,
+        0,
+        ssp.value,
+        pc.value,
+        codes::RESET_STATUS,
+        codes::RUNNING,
+    ]
+}
+
+// The halted state that a refused reset leaves.
+pub fn refused_slots() -> [u32; SLOTS]
+    ensures { λ r. ⌜ r ≡ refused-slots ⌝ }
+{
+    [
+        0,
+        0,
+        0,
+        0,
+        0,
+        0,
+        0,
+        0,
+        0,
+        0,
+        0,
+        0,
+        0,
+        0,
+        0,
+        0,
+        0,
+        0,
+        0,
+        codes::HALTED,
+    ]
+}
+
+// The number of a step's refusal, or 0.
+pub fn step_number(
+    slots: &[u32; SLOTS],
+    memory: &[u8],
+    level: u32,
+    journal: &[u8],
+    mark: usize,
+) -> u32
+    ensures { λ r. ⌜ r ≡ step-number (now (slots .entry)) (now (memory .entry)) level (now (journal .entry)) mark ⌝ }
+{
+    let fits = memory_fits(memory);
+    if !fits {
+        return 1;
+    }
+    let valid = state_fits(slots);
+    if !valid {
+        return 2;
+    }
+    let high = codes::TOP_LEVEL < level;
+    if high {
+        return 3;
+    }
+    let past = journal.len() < mark;
+    if past {
+        return 4;
+    }
+    let short = journal.len() - mark < LONGEST_RECORD;
+    if short {
+        return 5;
+    }
+    let halted = slots[codes::MODE] == codes::HALTED;
+    if halted {
+        return 6;
+    }
+    0
+}
+
+// The number of a run's refusal, or 0.
+pub fn run_number(
+    slots: &[u32; SLOTS],
+    memory: &[u8],
+    budget: u32,
+    journal: &[u8],
+    mark: usize,
+) -> u32
+    ensures { λ r. ⌜ r ≡ run-number (now (slots .entry)) (now (memory .entry)) budget (now (journal .entry)) mark ⌝ }
+{
+    let fits = memory_fits(memory);
+    if !fits {
+        return 1;
+    }
+    let valid = state_fits(slots);
+    if !valid {
+        return 2;
+    }
+    let high = codes::MOST_STEPS < budget;
+    if high {
+        return 3;
+    }
+    let past = journal.len() < mark;
+    if past {
+        return 4;
+    }
+    0
+}
+
+// The number of an undo's refusal, or 0: all but 8.
+pub fn undo_number(slots: &[u32; SLOTS], memory: &[u8], journal: &[u8], mark: usize) -> u32
+    ensures { λ r. ⌜ r ≡ undo-number (now (slots .entry)) (now (memory .entry)) (now (journal .entry)) mark ⌝ }
+{
+    let fits = memory_fits(memory);
+    if !fits {
+        return 1;
+    }
+    let valid = state_fits(slots);
+    if !valid {
+        return 2;
+    }
+    let past = journal.len() < mark;
+    if past {
+        return 4;
+    }
+    let empty = mark == 0;
+    if empty {
+        return 7;
+    }
+    0
+}
+
+// The answer of an undo that no other number refuses: 8 where the last record is not well formed.
+pub fn undo_answer(mark: usize, a: Answer) -> UndoAnswer
+    ensures { λ r. ⌜ r ≡ undo-answer mark a ⌝ }
+{
+    match a {
+        Answer::Done(start) => UndoAnswer {
+            number: 0,
+            mark: start,
+        },
+        Answer::Refused => UndoAnswer { number: 8, mark },
+    }
+}
