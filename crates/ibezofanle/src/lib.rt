@@ -1,8 +1,9 @@
 // lib.rt - the calls from C: reset, step, run and undo, with the state in a lent block of 80 bytes. No call has a `requires`.
-// Means: specs/Calls.antt, specs/Promises.antt.  Laws: proofs/CallLaws.antt, and the theorems beside it.
-// Uses: block, machine.  Declared for C in c/ibezofanle.h.  Source: [K1], [K2].
-ghost use Rattle.ibezofanle.specs.Promises.{IbzResetPromise, IbzStepPromise, IbzRunPromise, IbzUndoPromise};
+// Means: Calls and Promises of the crate block_calls, where the laws and the theorems stand.
+// Uses: block, calls, block_calls, machine.  Declared for C in c/ibezofanle.h.  Source: [K1], [K2].
+ghost use Rattle.block_calls.specs.Promises.{IbzResetPromise, IbzStepPromise, IbzRunPromise, IbzUndoPromise};
 use block::BLOCK_LENGTH;
+use block_calls::ResetAnswer;
 use calls::RunAnswer;
 use calls::StepAnswer;
 use calls::UndoAnswer;
@@ -10,12 +11,6 @@ use machine::NO_CLOCKS;
 
 // The refusal of a block that is not 80 bytes long.
 const NO_BLOCK: u32 = 9;
-
-// A reset's answer: the refusal's number or 0. A struct, as the other answers are, so that new members can go to its end.
-#[repr(C)]
-pub struct ResetAnswer {
-    pub number: u32,
-}
 
 // Reset. It does not write memory.
 #[no_mangle]

@@ -1,5 +1,5 @@
 -- ibz_reset: a block that does not fit, and a reset of the slots that it holds.
-use Rattle.ibezofanle.proofs.CallLaws.{ibz-reset-nine, ibz-reset-held}
+use Rattle.block_calls.proofs.CallLaws.{ibz-reset-nine, ibz-reset-held}
 use borrow.Author.Needs.{needs}
 use Rattle.ibezofanle.proofs.ibz_reset.Statement.{statement}
 use Rattle.ibezofanle.proofs.ibz_reset.Tie as tie

@@ -1,5 +1,5 @@
 -- ibz_run: a block that does not fit, and a run of the slots that it holds.
-use Rattle.ibezofanle.proofs.CallLaws.{ibz-run-nine, ibz-run-held}
+use Rattle.block_calls.proofs.CallLaws.{ibz-run-nine, ibz-run-held}
 use borrow.Author.Needs.{needs}
 use Rattle.ibezofanle.proofs.ibz_run.Statement.{statement}
 use Rattle.ibezofanle.proofs.ibz_run.Tie as tie

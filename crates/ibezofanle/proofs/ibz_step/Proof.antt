@@ -1,5 +1,5 @@
 -- ibz_step: a block that does not fit, and a step of the slots that it holds.
-use Rattle.ibezofanle.proofs.CallLaws.{ibz-step-nine, ibz-step-held}
+use Rattle.block_calls.proofs.CallLaws.{ibz-step-nine, ibz-step-held}
 use borrow.Author.Needs.{needs}
 use Rattle.ibezofanle.proofs.ibz_step.Statement.{statement}
 use Rattle.ibezofanle.proofs.ibz_step.Tie as tie

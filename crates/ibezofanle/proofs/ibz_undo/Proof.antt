@@ -1,5 +1,5 @@
 -- ibz_undo: a block that does not fit, and an undo on the slots that it holds.
-use Rattle.ibezofanle.proofs.CallLaws.{ibz-undo-nine, ibz-undo-held}
+use Rattle.block_calls.proofs.CallLaws.{ibz-undo-nine, ibz-undo-held}
 use borrow.Author.Needs.{needs}
 use Rattle.ibezofanle.proofs.ibz_undo.Statement.{statement}
 use Rattle.ibezofanle.proofs.ibz_undo.Tie as tie

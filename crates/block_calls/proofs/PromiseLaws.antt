@@ -7,8 +7,8 @@ use mathlib.Core.List.{List}
 use Rattle.calls.specs.declared.StepAnswer.{StepAnswer}
 use Rattle.calls.specs.declared.RunAnswer.{RunAnswer}
 use Rattle.calls.specs.declared.UndoAnswer.{UndoAnswer}
-use Rattle.ibezofanle.specs.declared.ResetAnswer.{ResetAnswer}
-use Rattle.ibezofanle.specs.Promises.{IbzResetPromise, IbzStepPromise, IbzRunPromise, IbzUndoPromise}
+use Rattle.block_calls.specs.declared.ResetAnswer.{ResetAnswer}
+use Rattle.block_calls.specs.Promises.{IbzResetPromise, IbzStepPromise, IbzRunPromise, IbzUndoPromise}
 
 pub ibz-reset-unique : (b m b₁ b₂ : List ℕ) (a₁ a₂ : ResetAnswer) → IbzResetPromise b m b₁ a₁ → IbzResetPromise b m b₂ a₂ → (b₁ ≡ b₂) × (a₁ ≡ a₂)
 ibz-reset-unique b m b₁ b₂ a₁ a₂ p q = (cc, cc)

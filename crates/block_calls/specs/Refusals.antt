@@ -1,5 +1,5 @@
 -- Refusals.antt - the tables of refusals of the calls from C: 9 before the lines of 01's tables, at the slots that the block holds.
--- Not here: what a call gives back (Calls.antt), 01's tables (Refusals.antt of the crate machine).
+-- Not here: what a call gives back (Calls.antt), 01's tables (Refusals.antt of the crate calls).
 -- Laws: proofs/RefusalLaws.antt.  Source: [K1].
 use Prim.Native.Nat.{ℕ}
 use mathlib.Core.Path.{_≡_}
@@ -7,7 +7,7 @@ use mathlib.Core.List.{List, _∷_}
 use lib.ListN.{length}
 use Rattle.calls.specs.Refusals.{Line, reset-table, step-table, run-table, undo-table}
 use Rattle.block.specs.Block.{block-length, slots-in}
-use Rattle.ibezofanle.specs.Calls.{no-block}
+use Rattle.block_calls.specs.Calls.{no-block}
 
 -- the block is not 80 bytes long  [K1]
 abbrev pub block-line : List ℕ → Line

@@ -10,9 +10,9 @@ use native.Mathlib.Omega.{arith}
 use Rattle.calls.specs.declared.RunAnswer.{RunAnswer}
 use Rattle.calls.specs.History.{seen, clocks-alone}
 use Rattle.calls.proofs.ClockLaws.{StepClocksFit, RunClocksFit, step-clocks-fit, run-clocks-fit, run-clocks-sum}
-use Rattle.ibezofanle.specs.Calls.{block-fits, OnBlock, ibz-step, ibz-run}
-use Rattle.ibezofanle.specs.History.{Box, ibz-stepping, ibz-running, machine-in}
-use Rattle.ibezofanle.proofs.GoingBack.{Lends, lent-in, ibz-running-held}
+use Rattle.block_calls.specs.Calls.{block-fits, OnBlock, ibz-step, ibz-run}
+use Rattle.block_calls.specs.History.{Box, ibz-stepping, ibz-running, machine-in}
+use Rattle.block_calls.proofs.GoingBack.{Lends, lent-in, ibz-running-held}
 
 -- ---- they fit, on any block
 pub ibz-step-clocks-fit : (level vector : ℕ) (x : Box) → StepClocksFit (ibz-stepping level vector x .a)

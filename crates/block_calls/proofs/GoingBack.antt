@@ -23,10 +23,10 @@ use Rattle.calls.proofs.HistoryLaws.{Carries, good-along, after-carried, standi
 use Rattle.calls.proofs.GoingBack.{going-back, undo-when-standing}
 use Rattle.block.specs.Block.{block-length, slots-in, block-of}
 use Rattle.block.proofs.BlockLaws.{length-of-slots, length-of-block, words-of-slots, slots-in-block, block-of-slots-in}
-use Rattle.ibezofanle.specs.Calls.{OnBlock, step-refusal, run-refusal, undo-refusal, ibz-step, ibz-run, ibz-undo}
-use Rattle.ibezofanle.specs.History.{Box, ibz-stepping, ibz-running, ibz-undoing, box-left, ibz-act, ibz-number, ibz-steps, ibz-calls}
-use Rattle.ibezofanle.specs.History.{BoxSeen, ibz-seen, machine-in, in-block}
-use Rattle.ibezofanle.proofs.CallLaws.{on-block-held}
+use Rattle.block_calls.specs.Calls.{OnBlock, step-refusal, run-refusal, undo-refusal, ibz-step, ibz-run, ibz-undo}
+use Rattle.block_calls.specs.History.{Box, ibz-stepping, ibz-running, ibz-undoing, box-left, ibz-act, ibz-number, ibz-steps, ibz-calls}
+use Rattle.block_calls.specs.History.{BoxSeen, ibz-seen, machine-in, in-block}
+use Rattle.block_calls.proofs.CallLaws.{on-block-held}
 
 -- the box of a machine: the block that holds its slots
 abbrev pub box-of : Machine → Box

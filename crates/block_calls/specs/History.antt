@@ -1,6 +1,6 @@
 -- History.antt - the calls from C on one box, each given what the last one left, and what their answers tell.
--- Not here: what a call does (Calls.antt); a mix of calls, and steps taken alone (History.antt of the crate machine).
--- Uses: block, machine.  Laws: proofs/GoingBack.antt.  Source: [K1], [00 demand 3].
+-- Not here: what a call does (Calls.antt); a mix of calls, and steps taken alone (History.antt of the crate calls).
+-- Uses: block, calls.  Laws: proofs/GoingBack.antt.  Source: [K1], [00 demand 3].
 use Prim.Native.Nat.{ℕ}
 use mathlib.Core.List.{List}
 use Rattle.calls.specs.declared.StepAnswer.{StepAnswer}
@@ -8,7 +8,7 @@ use Rattle.calls.specs.declared.RunAnswer.{RunAnswer}
 use Rattle.calls.specs.declared.UndoAnswer.{UndoAnswer}
 use Rattle.calls.specs.History.{Machine, Call, step-of, run-of, undo-once, Calls, Seen}
 use Rattle.block.specs.Block.{slots-in, block-of}
-use Rattle.ibezofanle.specs.Calls.{OnBlock, ibz-step, ibz-run, ibz-undo}
+use Rattle.block_calls.specs.Calls.{OnBlock, ibz-step, ibz-run, ibz-undo}
 
 -- what the host keeps between calls: block, memory, journal and mark  [K1]
 pub record Box : Type 0 where
@@ -53,7 +53,7 @@ ibz-steps (step-of level vector) x = 0
 ibz-steps (run-of budget stop) x = ibz-running budget stop x .a .steps
 ibz-steps undo-once x = 0
 
--- the calls from C on a box; after, accepted, undone, NeverAhead and standing of the crate machine speak of them too  [K1]
+-- the calls from C on a box; after, accepted, undone, NeverAhead and standing of the crate calls speak of them too  [K1]
 abbrev pub ibz-calls : Calls Box
 ibz-calls = record { next = ibz-act; number = ibz-number; steps = ibz-steps }
 

@@ -12,8 +12,8 @@ use Rattle.calls.specs.declared.RunAnswer.{RunAnswer}
 use Rattle.calls.specs.declared.UndoAnswer.{UndoAnswer}
 use Rattle.calls.specs.Promises.{ResetPromise, StepPromise, RunPromise, UndoPromise}
 use Rattle.block.specs.Block.{block-length, slots-in, block-of}
-use Rattle.ibezofanle.specs.Calls.{no-block, on-block, step-refusal, run-refusal, undo-refusal, ibz-reset, ibz-step, ibz-run, ibz-undo}
-use Rattle.ibezofanle.specs.Promises.{IbzResetPromise, IbzStepPromise, IbzRunPromise, IbzUndoPromise}
+use Rattle.block_calls.specs.Calls.{no-block, on-block, step-refusal, run-refusal, undo-refusal, ibz-reset, ibz-step, ibz-run, ibz-undo}
+use Rattle.block_calls.specs.Promises.{IbzResetPromise, IbzStepPromise, IbzRunPromise, IbzUndoPromise}
 
 -- ---- any call
 module _ {A : Type 0} (b m j : List ℕ) (refusal : ℕ → A) (s₁ m₁ j₁ : List ℕ) (a : A) where

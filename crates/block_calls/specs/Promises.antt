@@ -7,8 +7,8 @@ use mathlib.Core.List.{List}
 use Rattle.calls.specs.declared.StepAnswer.{StepAnswer}
 use Rattle.calls.specs.declared.RunAnswer.{RunAnswer}
 use Rattle.calls.specs.declared.UndoAnswer.{UndoAnswer}
-use Rattle.ibezofanle.specs.declared.ResetAnswer.{ResetAnswer}
-use Rattle.ibezofanle.specs.Calls.{ibz-reset, ibz-step, ibz-run, ibz-undo}
+use Rattle.block_calls.specs.declared.ResetAnswer.{ResetAnswer}
+use Rattle.block_calls.specs.Calls.{ibz-reset, ibz-step, ibz-run, ibz-undo}
 
 -- reset: memory is lent to be read only  [K1]
 pub record IbzResetPromise (b m b′ : List ℕ) (a : ResetAnswer) : Type 0 where

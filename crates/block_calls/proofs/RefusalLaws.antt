@@ -24,9 +24,9 @@ use Rattle.calls.specs.Refusals.{Line, Given, zero-at-end, this, later, NoneApp
 use Rattle.calls.proofs.RefusalLaws.{Lowest, Verdict, given-unique, reset-verdict, step-verdict, run-verdict, undo-verdict}
 use Rattle.calls.proofs.RefusalLaws.{reset-refused, step-refused, run-refused, undo-refused}
 use Rattle.block.specs.Block.{block-length, slots-in, block-of}
-use Rattle.ibezofanle.specs.Calls.{no-block, block-fits, IbzReset, OnBlock, on-block, step-refusal, run-refusal, undo-refusal}
-use Rattle.ibezofanle.specs.Calls.{ibz-reset, ibz-step, ibz-run, ibz-undo}
-use Rattle.ibezofanle.specs.Refusals.{block-line, ibz-reset-table, ibz-step-table, ibz-run-table, ibz-undo-table}
+use Rattle.block_calls.specs.Calls.{no-block, block-fits, IbzReset, OnBlock, on-block, step-refusal, run-refusal, undo-refusal}
+use Rattle.block_calls.specs.Calls.{ibz-reset, ibz-step, ibz-run, ibz-undo}
+use Rattle.block_calls.specs.Refusals.{block-line, ibz-reset-table, ibz-step-table, ibz-run-table, ibz-undo-table}
 use Rattle.block.proofs.BlockLaws.{block-of-slots-in}
 
 -- ---- what is proved of a call's number c on block b, its table t, and the machine's table, the rest of t

@@ -1,6 +1,6 @@
 -- Calls.antt - reset, step, run and undo from C: the machine's calls on the slots that the block holds, and refusal 9 before all others.
 -- After a call the block holds the returned state; at 9 nothing is read, judged or altered.
--- Uses: bits, block, machine.  Laws: proofs/.  Source: [K1], [K2].
+-- Uses: bits, block, calls.  Laws: proofs/.  Source: [K1], [K2].
 use Prim.Native.Nat.{ℕ}
 use mathlib.Core.Bool.{Bool}
 use mathlib.Core.List.{List}
@@ -11,7 +11,7 @@ use Rattle.calls.specs.declared.StepAnswer.{StepAnswer}
 use Rattle.calls.specs.declared.RunAnswer.{RunAnswer}
 use Rattle.calls.specs.declared.UndoAnswer.{UndoAnswer}
 use Rattle.calls.specs.Calls.{reset-number, reset-call, step-call, run-call, undo-call}
-use Rattle.ibezofanle.specs.declared.ResetAnswer.{ResetAnswer}
+use Rattle.block_calls.specs.declared.ResetAnswer.{ResetAnswer}
 use Rattle.block.specs.Block.{block-length, slots-in, block-of}
 
 -- the refusal of a block of another length  [K1]
