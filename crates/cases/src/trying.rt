@@ -14,33 +14,11 @@ use crate::text::number;
 use crate::text::piece;
 use codes::SLOTS;
 use compare::same;
-use compare::same_slots;
-
-pub const AGREES: u32 = 0;
-
-pub const SKIPPED: u32 = 1;
-
-pub const MALFORMED: u32 = 2;
-
-pub const STEP_REFUSED: u32 = 3;
-
-pub const STEP_SLOTS: u32 = 4;
-
-pub const STEP_MEMORY: u32 = 5;
-
-pub const STEP_MARK: u32 = 6;
-
-pub const STEP_JOURNAL: u32 = 7;
-
-pub const STEP_CLOCKS: u32 = 8;
-
-pub const UNDO_NUMBER: u32 = 9;
-
-pub const UNDO_SLOTS: u32 = 10;
-
-pub const UNDO_MEMORY: u32 = 11;
-
-pub const UNDO_MARK: u32 = 12;
+use compare::verdicts::AGREES;
+use compare::verdicts::MALFORMED;
+use compare::verdicts::SKIPPED;
+use compare::verdicts::of_step;
+use compare::verdicts::of_undo;
 
 // the mark that a step is given: bytes before it are seen to stay
 const MARK: usize = 1000;
@@ -197,25 +175,20 @@ fn compare_step(
         return MALFORMED;
     }
     let answer = step(slots, memory, level as u32, vector as u8, journal);
-    if answer.number != 0 {
-        return STEP_REFUSED;
-    }
-    if !same_slots(slots, goal) {
-        return STEP_SLOTS;
-    }
-    if !same(memory, wanted) {
-        return STEP_MEMORY;
-    }
-    if answer.mark != next_mark(text) {
-        return STEP_MARK;
-    }
-    if !same(journal, record) {
-        return STEP_JOURNAL;
-    }
-    if !right_clocks(text, answer.clocks) {
-        return STEP_CLOCKS;
-    }
-    AGREES
+    let next = next_mark(text);
+    let timely = right_clocks(text, answer.clocks);
+    of_step(
+        answer.number,
+        slots,
+        goal,
+        memory,
+        wanted,
+        answer.mark,
+        next,
+        journal,
+        record,
+        timely,
+    )
 }
 
 // Undoes the step, and compares with the goal. Only where slots and memory are equal does it agree.
@@ -232,19 +205,16 @@ fn compare_undo(
 {
     let due = undo_wanted(text);
     let answer = undo(slots, memory, journal, next_mark(text));
-    if answer.number != due.number {
-        return UNDO_NUMBER;
-    }
-    if !same_slots(slots, goal) {
-        return UNDO_SLOTS;
-    }
-    if !same(memory, wanted) {
-        return UNDO_MEMORY;
-    }
-    if answer.mark != due.mark {
-        return UNDO_MARK;
-    }
-    AGREES
+    of_undo(
+        answer.number,
+        due.number,
+        slots,
+        goal,
+        memory,
+        wanted,
+        answer.mark,
+        due.mark,
+    )
 }
 
 // Both, where the goal and what is wanted are those after the step.

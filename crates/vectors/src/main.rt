@@ -1,10 +1,9 @@
 // main.rt - reads cases from standard input, a line each, and counts those that agree, differ and are skipped.
 // Means: nothing; proved safe.
-// Uses: cases, stack_limit, io, libc, os.  Source: [01 Set down and proved], crates/vectors/README.md.
+// Uses: compare, cases, stack_limit, io, libc, os.  Source: [01 Set down and proved], crates/vectors/README.md.
 use cases::lines::NO_MORE;
 use cases::lines::Reading;
-use cases::trying::AGREES;
-use cases::trying::SKIPPED;
+use compare::verdicts;
 use libc::STDOUT_FILENO;
 
 // how many of the cases that differ are named
@@ -28,8 +27,8 @@ fn one_more(n: u64) -> u64 {
 fn counted(t: Tally, found: u32) -> Tally {
     let mut next = t;
     match found {
-        cases::trying::AGREES => next.agree = one_more(t.agree),
-        cases::trying::SKIPPED => next.skipped = one_more(t.skipped),
+        verdicts::AGREES => next.agree = one_more(t.agree),
+        verdicts::SKIPPED => next.skipped = one_more(t.skipped),
         _ => next.differ = one_more(t.differ),
     }
     next
@@ -37,27 +36,27 @@ fn counted(t: Tally, found: u32) -> Tally {
 
 fn write_reason(found: u32) -> bool {
     match found {
-        cases::trying::MALFORMED => io::write_all(STDOUT_FILENO, b": no case\n"),
-        cases::trying::STEP_REFUSED => io::write_all(STDOUT_FILENO, b": the step is refused\n"),
-        cases::trying::STEP_SLOTS => io::write_all(STDOUT_FILENO, b": slots after the step\n"),
-        cases::trying::STEP_MEMORY => io::write_all(STDOUT_FILENO, b": memory after the step\n"),
-        cases::trying::STEP_MARK => io::write_all(STDOUT_FILENO, b": mark after the step\n"),
-        cases::trying::STEP_JOURNAL => io::write_all(STDOUT_FILENO, b": journal after the step\n"),
-        cases::trying::STEP_CLOCKS => io::write_all(STDOUT_FILENO, b": clocks of the step\n"),
-        cases::trying::UNDO_NUMBER => io::write_all(STDOUT_FILENO, b": number after the undo\n"),
-        cases::trying::UNDO_SLOTS => io::write_all(STDOUT_FILENO, b": slots after the undo\n"),
-        cases::trying::UNDO_MEMORY => io::write_all(STDOUT_FILENO, b": memory after the undo\n"),
-        cases::trying::UNDO_MARK => io::write_all(STDOUT_FILENO, b": mark after the undo\n"),
+        verdicts::MALFORMED => io::write_all(STDOUT_FILENO, b": no case\n"),
+        verdicts::STEP_REFUSED => io::write_all(STDOUT_FILENO, b": the step is refused\n"),
+        verdicts::STEP_SLOTS => io::write_all(STDOUT_FILENO, b": slots after the step\n"),
+        verdicts::STEP_MEMORY => io::write_all(STDOUT_FILENO, b": memory after the step\n"),
+        verdicts::STEP_MARK => io::write_all(STDOUT_FILENO, b": mark after the step\n"),
+        verdicts::STEP_JOURNAL => io::write_all(STDOUT_FILENO, b": journal after the step\n"),
+        verdicts::STEP_CLOCKS => io::write_all(STDOUT_FILENO, b": clocks of the step\n"),
+        verdicts::UNDO_NUMBER => io::write_all(STDOUT_FILENO, b": number after the undo\n"),
+        verdicts::UNDO_SLOTS => io::write_all(STDOUT_FILENO, b": slots after the undo\n"),
+        verdicts::UNDO_MEMORY => io::write_all(STDOUT_FILENO, b": memory after the undo\n"),
+        verdicts::UNDO_MARK => io::write_all(STDOUT_FILENO, b": mark after the undo\n"),
         _ => true,
     }
 }
 
 // Names a case that differs, if it is among the first.
 fn report(found: u32, before: Tally, number: u64, text: &[u8]) {
-    if found == AGREES {
+    if found == verdicts::AGREES {
         return;
     }
-    if found == SKIPPED {
+    if found == verdicts::SKIPPED {
         return;
     }
     if NAMED <= before.differ {
@@ -149,7 +148,7 @@ fn try_lines(k: u32, large: bool, p: Progress, chunk: &mut [u8], line: &mut [u8]
     }
     let n = room_of(line, q.reading);
     if n == 0 {
-        return reported(q, text_of(line, q.reading), cases::trying::MALFORMED);
+        return reported(q, text_of(line, q.reading), verdicts::MALFORMED);
     }
     if n <= 65536 {
         return small_case(q, line);
@@ -157,7 +156,7 @@ fn try_lines(k: u32, large: bool, p: Progress, chunk: &mut [u8], line: &mut [u8]
     if large {
         return large_case(q, line);
     }
-    reported(q, text_of(line, q.reading), SKIPPED)
+    reported(q, text_of(line, q.reading), verdicts::SKIPPED)
 }
 
 fn write_tally(t: Tally) {

@@ -1,18 +1,13 @@
--- compare_step: only what was found equal agrees.
+-- compare_step: what of_step says of the verdict.
 use borrow.Author.Needs.{needs}
-use borrow.Author.Tests.{not-false}
-use Rattle.cases.proofs.VerdictLaws.{differing}
+use Rattle.compare.proofs.VerdictLaws.{differing}
 use Rattle.cases.proofs.trying.compare_step.Statement.{statement}
 use Rattle.cases.proofs.trying.compare_step.Tie as tie
 
-returns-9 : tie.Need-returns-9
-returns-9 c =
-    let j = c .before .before in
-    let m = j .before .before .before .before .before .before in
-    let s = m .before .before .before in (
-      λ e. s .before .same-slots .ensures .0 (not-false _ (s .if4 .left)),
-      (λ e. m .before .same .ensures .0 (not-false _ (m .if5 .left)), λ e. j .before .same2 .ensures .0 (not-false _ (j .if7 .left))),
-    )
+returns-3 : tie.Need-returns-3
+returns-3 c =
+    let v = c .of-step .ensures .0 in
+    (λ e. v e .slots, (λ e. v e .memory, λ e. v e .journal))
 
 pub compare-step-spec : {M : Type 1} → statement M
 compare-step-spec =
@@ -27,29 +22,9 @@ compare-step-spec =
     (λ c. search needs)
     (λ c. search needs)
     (λ c κs. search needs)
-    (λ c. search needs)
-    (λ c. search needs)
-    (λ c. (differing, (differing, differing)))
+    (λ c κs. search needs)
+    (λ c κs. search needs)
     (λ c κs. search needs)
     (λ c. search needs)
     (λ c. search needs)
-    (λ c. (differing, (differing, differing)))
-    (λ c κs. search needs)
-    (λ c. search needs)
-    (λ c. search needs)
-    (λ c. (differing, (differing, differing)))
-    (λ c κs. search needs)
-    (λ c. search needs)
-    (λ c. search needs)
-    (λ c. (differing, (differing, differing)))
-    (λ c κs. search needs)
-    (λ c. search needs)
-    (λ c. search needs)
-    (λ c. (differing, (differing, differing)))
-    (λ c κs. search needs)
-    (λ c. search needs)
-    (λ c. search needs)
-    (λ c. (differing, (differing, differing)))
-    (λ c. search needs)
-    (λ c. search needs)
-    returns-9)
+    returns-3)
