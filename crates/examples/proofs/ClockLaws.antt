@@ -20,6 +20,7 @@ use Rattle.integer.specs.Integer as Integer
 use Rattle.bitwise.specs.Bitwise as Bitwise
 use Rattle.movem.specs.Movem as Movem
 use Rattle.bank.specs.Bank as Bank
+use Rattle.frames.specs.Frames as Frames
 use Rattle.exception.specs.Exceptions as Exceptions
 use Rattle.execute.specs.Dispatch as Dispatch
 use Rattle.clocks.specs.Clocks as Clocks
@@ -50,9 +51,9 @@ unfolding Count.onesIn Bits.iter Bits.by-size Bits.sign-byte Bits.sign-word
     Movem.next-spot Movem.load-one Movem.movem-to-registers Movem.movem-down Movem.movem-to-memory Movem.room-way Movem.room-one Movem.block-room Movem.mirrored Movem.put-way Movem.stored Movem.byte-of Movem.part-of Movem.put-part Movem.put-one Movem.block-put Movem.down-one
     Movem.block-put-down
     Bank.bank Bank.usp-after Bank.ssp-after Bank.sr-after Bank.mode-after Bank.settle
-    Exceptions.handler Exceptions.can-enter Exceptions.enter Exceptions.small-room Exceptions.small-frame Exceptions.small-ready Exceptions.exception
-    Exceptions.big-room Exceptions.fault-access Exceptions.big-ready
-    Exceptions.fault-rest Exceptions.big-frame Exceptions.fault-taken Exceptions.fault
+    Exceptions.handler Exceptions.can-enter Exceptions.enter Exceptions.small-room Frames.small-frame Exceptions.small-ready Exceptions.exception
+    Exceptions.big-room Frames.fault-access Exceptions.big-ready
+    Frames.fault-rest Frames.big-frame Exceptions.fault-taken Exceptions.fault
     Dispatch.refused-kind Dispatch.movement-kind Dispatch.integer-kind Dispatch.logical-kind Dispatch.control-kind Dispatch.system-kind
     Dispatch.dispatch Dispatch.as-user Dispatch.execute Dispatch.user-clocks Dispatch.own-clocks
     Clocks.place Clocks.operand-clocks Clocks.direct Clocks.general Clocks.sized Clocks.addressed Clocks.narrow Clocks.paired Clocks.peripheral

@@ -12,6 +12,7 @@ use Rattle.decode.specs.Rows as Rows
 use Rattle.control.specs.Control as Control
 use Rattle.system.specs.System as System
 use Rattle.bank.specs.Bank as Bank
+use Rattle.frames.specs.Frames as Frames
 use Rattle.exception.specs.Exceptions as Exceptions
 use Rattle.execute.specs.Dispatch as Dispatch
 use Rattle.step.specs.Steps as Steps
@@ -30,8 +31,8 @@ unfolding Bits.iter Bits.by-size Bits.sign-byte Bits.sign-word
     Control.jump-plan Control.jump-subroutine Control.return-restore Control.return-subroutine
     System.return-exception
     Bank.bank Bank.usp-after Bank.ssp-after Bank.sr-after Bank.mode-after Bank.settle
-    Exceptions.handler Exceptions.can-enter Exceptions.enter Exceptions.small-room Exceptions.small-frame Exceptions.small-ready Exceptions.exception
-    Exceptions.big-room Exceptions.fault-access Exceptions.fault-rest Exceptions.big-frame Exceptions.big-ready Exceptions.fault-taken Exceptions.fault
+    Exceptions.handler Exceptions.can-enter Exceptions.enter Exceptions.small-room Frames.small-frame Exceptions.small-ready Exceptions.exception
+    Exceptions.big-room Frames.fault-access Frames.fault-rest Frames.big-frame Exceptions.big-ready Exceptions.fault-taken Exceptions.fault
     Dispatch.refused-kind Dispatch.control-kind Dispatch.system-kind Dispatch.dispatch Dispatch.as-user Dispatch.execute
     Steps.checked Steps.attempt Steps.commit Steps.trap-of Steps.take-trap Steps.traced Steps.both Steps.carry-out Steps.conclude Steps.instruction
     Steps.interrupt Steps.one-step

@@ -18,6 +18,7 @@ use Rattle.record.specs.Change as Change
 use Rattle.record.specs.Limits as Limits
 use Rattle.numbers.specs.Number as Number
 use Rattle.bank.specs.Bank as Bank
+use Rattle.frames.specs.Frames as Frames
 use Rattle.exception.specs.Exceptions as Exceptions
 use Rattle.execute.specs.Dispatch as Dispatch
 use Rattle.step.specs.Steps as Steps
@@ -49,9 +50,9 @@ unfolding Bits.iter Bits.by-size Bits.sign-byte Bits.sign-word
     Limits.valid-value
     Number.number-bytes Number.back Number.read-number
     Bank.bank Bank.usp-after Bank.ssp-after Bank.sr-after Bank.mode-after Bank.settle
-    Exceptions.handler Exceptions.can-enter Exceptions.enter Exceptions.small-room Exceptions.small-frame Exceptions.small-ready Exceptions.exception
-    Exceptions.big-room Exceptions.fault-access Exceptions.big-ready
-    Exceptions.fault-rest Exceptions.big-frame Exceptions.fault-taken Exceptions.fault
+    Exceptions.handler Exceptions.can-enter Exceptions.enter Exceptions.small-room Frames.small-frame Exceptions.small-ready Exceptions.exception
+    Exceptions.big-room Frames.fault-access Exceptions.big-ready
+    Frames.fault-rest Frames.big-frame Exceptions.fault-taken Exceptions.fault
     Dispatch.refused-kind Dispatch.movement-kind Dispatch.integer-kind Dispatch.logical-kind Dispatch.control-kind Dispatch.system-kind
     Dispatch.dispatch Dispatch.as-user Dispatch.execute
     Steps.checked Steps.attempt Steps.commit Steps.trap-of Steps.take-trap Steps.traced Steps.both Steps.carry-out Steps.conclude Steps.instruction

@@ -1,7 +1,7 @@
 -- ExceptionLaws.antt - one law for each return of the functions of exception.
--- small-room-is, small-frame-is, under-..-is, small-ready-is, enter-is, exception-.. (slots, memory, event), exception-halts-.., and the same of faults.
--- Uses: bits, bus, touch, bank.
-use Prim.Native.Nat.{ℕ, _+_, _*_, _%_, _/_, _<_, _^_}
+-- small-room-is, small-ready-is, enter-is, exception-.. (slots, memory, event), exception-halts-.., and the same of faults; noted-still.
+-- Uses: bits, bus, touch, bank, frames.
+use Prim.Native.Nat.{ℕ, _+_, _*_, _%_, _<_, _^_}
 use native.Mathlib.Omega.{arith}
 use mathlib.Core.Path.{_≡_}
 use mathlib.Core.Bool.{Bool, true, false, _&&_}
@@ -12,12 +12,11 @@ use Rattle.bits.specs.Bits.{plus, minus}
 use Rattle.bank.specs.Bank.{long, ssp-of, pc-of, sr-of}
 use Rattle.bus.specs.declared.Flow.{Flow}
 use Rattle.bus.specs.declared.Fetched.{Fetched}
-use Rattle.bus.specs.Bus.{View, view-of, pins, read-long, room, put-word, put-long}
+use Rattle.bus.specs.Bus.{View, view-of, read-long, room}
 use Rattle.touch.specs.Touch.{LogOk, Noted}
 use Rattle.touch.proofs.TouchLaws.{noted-none, noted-then}
-use Rattle.exception.specs.Exceptions.{fresh, supervisor-sr, small-room, small-frame, big-room, fault-access, fault-rest}
-use Rattle.exception.specs.Exceptions.{big-frame, handler, can-enter, small-ready, big-ready, enter, exception, fault-taken, fault}
-use Rattle.exception.specs.Under.{under-byte, under-word, under-long, under-small, under-access, under-rest, under-big}
+use Rattle.frames.specs.Frames.{small-frame, big-frame}
+use Rattle.exception.specs.Exceptions.{fresh, supervisor-sr, small-room, big-room, handler, can-enter, small-ready, big-ready, enter, exception, fault-taken, fault}
 
 module _ (v : View) (a : ℕ) where
   pub small-room-is : (e g h : Flow) (b : ℕ) → e ≡ fresh 0 0 → g ≡ room v a 1 e → b ≡ plus a 2 → h ≡ room v b 2 g → eqb (h .bad) 0 ≡ small-room v a
@@ -27,59 +26,6 @@ module _ (v : View) (a : ℕ) where
   pub big-room-is : (e g h i j : Flow) (b c d : ℕ) → e ≡ fresh 0 0 → g ≡ room v a 2 e → b ≡ plus a 4 → h ≡ room v b 2 g → c ≡ plus a 8 → i ≡ room v c 2 h → d ≡ plus a 12 → j ≡ room v d 1 i → eqb (j .bad) 0 ≡ big-room v a
   unfolding big-room
   big-room-is e g h i j b c d e0 e1 e2 e3 e4 e5 e6 e7 = cc
-
-module _ (m : List ℕ) (a sr pc : ℕ) where
-  pub small-frame-is : (n o : List ℕ) (b : ℕ) → n ≡ put-word m a sr → b ≡ plus a 2 → o ≡ put-long n b pc → o ≡ small-frame m a sr pc
-  unfolding small-frame
-  small-frame-is n o b e1 e2 e3 = cc
-
-  pub fault-rest-is : (n o : List ℕ) (op b : ℕ) → n ≡ put-word m a op → b ≡ plus a 2 → o ≡ small-frame n b sr pc → o ≡ fault-rest m a op sr pc
-  unfolding fault-rest
-  fault-rest-is n o op b e1 e2 e3 = cc
-
-  pub big-frame-is : (n o : List ℕ) (bad op b : ℕ) → n ≡ fault-access m a bad → b ≡ plus a 6 → o ≡ fault-rest n b op sr pc → o ≡ big-frame m a bad op sr pc
-  unfolding big-frame
-  big-frame-is n o bad op b e1 e2 e3 = cc
-
-pub fault-access-is : (m n o : List ℕ) (a bad b : ℕ) → n ≡ put-word m a (bad / 4 % 64) → b ≡ plus a 2 → o ≡ put-long n b (bad / 256) → o ≡ fault-access m a bad
-unfolding fault-access
-fault-access-is m n o a bad b e1 e2 e3 = cc
-
--- a byte under a frame
-module _ (i b a : ℕ) where
-  module _ (v : ℕ) where
-    pub under-here : eqb (pins a) i ≡ true → v % 256 ≡ under-byte i b a v
-    unfolding under-byte
-    under-here h = cc
-
-    pub under-elsewhere : eqb (pins a) i ≡ false → b ≡ under-byte i b a v
-    unfolding under-byte
-    under-elsewhere h = cc
-
-  module _ (c d : ℕ) where
-    pub under-word-is : (v e : ℕ) → c ≡ under-byte i b a (v / 256) → e ≡ plus a 1 → d ≡ under-byte i c e v → d ≡ under-word i b a v
-    unfolding under-word
-    under-word-is v e e1 e2 e3 = cc
-
-    pub under-long-is : (v e : ℕ) → c ≡ under-word i b a (v / 65536) → e ≡ plus a 2 → d ≡ under-word i c e v → d ≡ under-long i b a v
-    unfolding under-long
-    under-long-is v e e1 e2 e3 = cc
-
-    pub under-small-is : (sr pc e : ℕ) → c ≡ under-word i b a sr → e ≡ plus a 2 → d ≡ under-long i c e pc → d ≡ under-small i b a sr pc
-    unfolding under-small
-    under-small-is sr pc e e1 e2 e3 = cc
-
-    pub under-access-is : (bad e : ℕ) → c ≡ under-word i b a (bad / 4 % 64) → e ≡ plus a 2 → d ≡ under-long i c e (bad / 256) → d ≡ under-access i b a bad
-    unfolding under-access
-    under-access-is bad e e1 e2 e3 = cc
-
-    pub under-rest-is : (op sr pc e : ℕ) → c ≡ under-word i b a op → e ≡ plus a 2 → d ≡ under-small i c e sr pc → d ≡ under-rest i b a op sr pc
-    unfolding under-rest
-    under-rest-is op sr pc e e1 e2 e3 = cc
-
-    pub under-big-is : (bad op sr pc e : ℕ) → c ≡ under-access i b a bad → e ≡ plus a 6 → d ≡ under-rest i c e op sr pc → d ≡ under-big i b a bad op sr pc
-    unfolding under-big
-    under-big-is bad op sr pc e e1 e2 e3 = cc
 
 -- whether an exception can be taken
 module _ (s m : List ℕ) (a pc : ℕ) (x y : Bool) where

@@ -10,7 +10,8 @@ use Rattle.codes.specs.Codes.{Word, Long, Ssp, Pc, Sr, Mode, Running, Halted, S
 use Rattle.bits.specs.Bits.{pick, plus, minus}
 use Rattle.bank.specs.Bank.{long, ssp-of, pc-of, sr-of}
 use Rattle.bus.specs.declared.Flow.{Flow}
-use Rattle.bus.specs.Bus.{View, view-of, read-long, room, put-word, put-long, fault-address, fault-information, fault-vector}
+use Rattle.bus.specs.Bus.{View, view-of, read-long, room, fault-vector}
+use Rattle.frames.specs.Frames.{small-frame, big-frame}
 
 -- slots and memory, and the event  [ours]
 pub record Stepped : Type 0 where
@@ -51,10 +52,6 @@ enter s v a vec sr = set (set (set (set s Ssp a) Pc (handler v vec)) Sr sr) Mode
 unfoldable pub small-room : View → ℕ → Bool
 small-room v a = eqb (room v (plus a 2) Long (room v a Word (fresh 0 0)) .bad) 0
 
--- those six bytes written  [003 4.3.4] [01 step 1]
-unfoldable pub small-frame : List ℕ → ℕ → ℕ → ℕ → List ℕ
-small-frame m a sr pc = put-long (put-word m a sr) (plus a 2) pc
-
 -- whether an exception can be taken: its frame can be written, and the handler, as the vector has it then, can be entered  [01 step 8] [K3]
 unfoldable pub small-ready : List ℕ → List ℕ → ℕ → Bool
 small-ready s m vec =
@@ -75,18 +72,6 @@ big-room v a =
     let h = room v (plus a 4) Long g in
     let i = room v (plus a 8) Long h in
     eqb (room v (plus a 12) Word i .bad) 0
-
--- from the lowest address: information word, access address  [003 4.4.9.1] [01 step 7]
-unfoldable pub fault-access : List ℕ → ℕ → ℕ → List ℕ
-fault-access m a bad = put-long (put-word m a (fault-information bad)) (plus a 2) (fault-address bad)
-
--- above them: operation word, SR, PC  [003 4.4.9.1] [01 step 7]
-unfoldable pub fault-rest : List ℕ → ℕ → ℕ → ℕ → ℕ → List ℕ
-fault-rest m a op sr pc = small-frame (put-word m a op) (plus a 2) sr pc
-
--- the fourteen bytes written  [003 4.4.9.1] [01 step 7]
-unfoldable pub big-frame : List ℕ → ℕ → ℕ → ℕ → ℕ → ℕ → List ℕ
-big-frame m a bad op sr pc = fault-rest (fault-access m a bad) (plus a 6) op sr pc
 
 -- whether a fault can be taken  [01 step 8] [K3]
 unfoldable pub big-ready : List ℕ → List ℕ → ℕ → ℕ → Bool

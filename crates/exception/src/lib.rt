@@ -1,14 +1,14 @@
-// lib.rt - an exception: its frame of 6 or 14 bytes on SSP, the vector, and the halt where it cannot be taken.
-// Means: specs/Exceptions.antt, specs/Under.antt.  Laws: proofs/ExceptionLaws.antt, proofs/UnderLaws.antt.
-// Uses: codes, bits, bank, bus, store, touch.  Source: [003 4.3.5], [003 4.4.9], [003 4.4.10], [01 step 1], [01 step 7], [01 step 8], [K3].
+// lib.rt - an exception: room for its frame on SSP, the vector, the slots, and the halt where it cannot be taken.
+// Means: specs/Exceptions.antt.  Laws: proofs/ExceptionLaws.antt, proofs/EnterLaws.antt.
+// Uses: codes, bits, bus, bank, touch, frames.  Source: [003 4.3.5], [003 4.4.9], [003 4.4.10], [01 step 1], [01 step 7], [01 step 8], [K3].
 ghost use mathlib.Core.Path.{_≡_};
-ghost use Prim.Native.Nat.{ℕ, _+_, _*_, _%_, _/_, _<_, _≤_};
-ghost use lib.ListN.{getD, set, length};
+ghost use Prim.Native.Nat.{_+_, _%_, _≤_};
+ghost use lib.ListN.{length};
 ghost use Rattle.bus.specs.Bus.{view-of};
 ghost use Rattle.touch.specs.Touch.{LogOk, Noted};
-ghost use Rattle.exception.specs.Exceptions.{fresh, small-room, small-frame, big-room, fault-access, fault-rest, big-frame, enter, exception};
-ghost use Rattle.exception.specs.Exceptions.{fault-taken, fault, supervisor-sr, of-fault, can-enter, small-ready, big-ready};
-ghost use Rattle.exception.specs.Under.{under-byte, under-word, under-long, under-small, under-access, under-rest, under-big};
+ghost use Rattle.frames.specs.Frames.{small-frame, big-frame};
+ghost use Rattle.exception.specs.Exceptions.{fresh, supervisor-sr, small-room, of-fault, small-ready, enter, exception, big-room, big-ready};
+ghost use Rattle.exception.specs.Exceptions.{fault-taken, fault, can-enter};
 use bus::Flow;
 use codes::SLOTS;
 
@@ -42,53 +42,11 @@ fn small_room(mem: &[u8], a: u32) -> bool
     h.bad == 0
 }
 
-fn small_frame(mem: &mut [u8], log: &mut [u64], n: usize, a: u32, sr: u32, pc: u32) -> usize
-    requires { ⌜ LogOk (now mem) (now log) n × (n + 6 ≤ length (now log)) ⌝ }
-    ensures { λ _. ⌜ now (mem .exit) ≡ small-frame (now (mem .entry)) a sr pc ⌝ }
-    ensures { λ r. ⌜ Noted (now (mem .entry)) (now (log .entry)) n 6 (now (mem .exit)) (now (log .exit)) r ⌝ }
-{
-    let k = store::store_word(mem, log, n, a, sr);
-    store::store_long(mem, log, k, std::num::wrapping_add_u32(a, 2), pc)
-}
-
 // Whether a vector is one whose handler must be even.
 fn of_fault(vec: u32) -> bool
     ensures { λ r. ⌜ r ≡ of-fault vec ⌝ }
 {
     (vec % 256 == codes::BUS_ERROR) | (vec % 256 == codes::ADDRESS_ERROR)
-}
-
-// What the byte b at place i of memory is, once a byte is put at a.
-fn under_byte(i: u32, b: u32, a: u32, v: u32) -> u32
-    ensures { λ r. ⌜ r ≡ under-byte i b a v ⌝ }
-{
-    let here = a % codes::ADDRESSES == i;
-    if here {
-        return v % 256;
-    }
-    b
-}
-
-fn under_word(i: u32, b: u32, a: u32, v: u32) -> u32
-    ensures { λ r. ⌜ r ≡ under-word i b a v ⌝ }
-{
-    let c = under_byte(i, b, a, v / 256);
-    under_byte(i, c, std::num::wrapping_add_u32(a, 1), v)
-}
-
-fn under_long(i: u32, b: u32, a: u32, v: u32) -> u32
-    ensures { λ r. ⌜ r ≡ under-long i b a v ⌝ }
-{
-    let c = under_word(i, b, a, v / 65536);
-    under_word(i, c, std::num::wrapping_add_u32(a, 2), v)
-}
-
-// The same byte once the frame of six bytes is put.
-fn under_small(i: u32, b: u32, a: u32, sr: u32, pc: u32) -> u32
-    ensures { λ r. ⌜ r ≡ under-small i b a sr pc ⌝ }
-{
-    let c = under_word(i, b, a, sr);
-    under_long(i, c, std::num::wrapping_add_u32(a, 2), pc)
 }
 
 // Whether the handler can be entered once the small frame is written. Looked up before it is: an exception that halts writes nothing. The
@@ -102,7 +60,7 @@ fn small_enters(mem: &[u8], a: u32, vec: u32, sr: u32, pc: u32) -> bool
         let at = i as usize;
         let inside = at < mem.len();
         if inside {
-            let c = under_small(i, bits::wide(mem[at]), a, sr, pc);
+            let c = frames::under_small(i, bits::wide(mem[at]), a, sr, pc);
             return c % 2 == 0;
         }
         return true;
@@ -152,7 +110,7 @@ pub fn exception(
         let old = s[codes::SR];
         let pc = s[codes::PC];
         let a = bits::minus(s[codes::SSP], 6);
-        let k = small_frame(mem, log, n, a, old, pc);
+        let k = frames::small_frame(mem, log, n, a, old, pc);
         enter(s, mem, a, vec, sr);
         return Ended {
             n: k,
@@ -177,67 +135,6 @@ fn big_room(mem: &[u8], a: u32) -> bool
     j.bad == 0
 }
 
-// The information word and the access address of a fault.
-fn fault_access(mem: &mut [u8], log: &mut [u64], n: usize, a: u32, bad: u32) -> usize
-    requires { ⌜ LogOk (now mem) (now log) n × (n + 6 ≤ length (now log)) ⌝ }
-    ensures { λ _. ⌜ now (mem .exit) ≡ fault-access (now (mem .entry)) a bad ⌝ }
-    ensures { λ r. ⌜ Noted (now (mem .entry)) (now (log .entry)) n 6 (now (mem .exit)) (now (log .exit)) r ⌝ }
-{
-    let k = store::store_word(mem, log, n, a, bad / 4 % 64);
-    store::store_long(mem, log, k, std::num::wrapping_add_u32(a, 2), bad / 256)
-}
-
-// The operation word of a fault, SR and PC.
-fn fault_rest(mem: &mut [u8], log: &mut [u64], n: usize, a: u32, op: u32, sr: u32, pc: u32) -> usize
-    requires { ⌜ LogOk (now mem) (now log) n × (n + 8 ≤ length (now log)) ⌝ }
-    ensures { λ _. ⌜ now (mem .exit) ≡ fault-rest (now (mem .entry)) a op sr pc ⌝ }
-    ensures { λ r. ⌜ Noted (now (mem .entry)) (now (log .entry)) n 8 (now (mem .exit)) (now (log .exit)) r ⌝ }
-{
-    let k = store::store_word(mem, log, n, a, op);
-    small_frame(mem, log, k, std::num::wrapping_add_u32(a, 2), sr, pc)
-}
-
-// From the lowest address: information word, access address, operation word, SR, PC.
-fn big_frame(
-    mem: &mut [u8],
-    log: &mut [u64],
-    n: usize,
-    a: u32,
-    bad: u32,
-    op: u32,
-    sr: u32,
-    pc: u32,
-) -> usize
-    requires { ⌜ LogOk (now mem) (now log) n × (n + 14 ≤ length (now log)) ⌝ }
-    ensures { λ _. ⌜ now (mem .exit) ≡ big-frame (now (mem .entry)) a bad op sr pc ⌝ }
-    ensures { λ r. ⌜ Noted (now (mem .entry)) (now (log .entry)) n 14 (now (mem .exit)) (now (log .exit)) r ⌝ }
-{
-    let k = fault_access(mem, log, n, a, bad);
-    fault_rest(mem, log, k, std::num::wrapping_add_u32(a, 6), op, sr, pc)
-}
-
-// A byte of memory once the frame of a fault is put: its first six bytes, the eight above them, all.
-fn under_access(i: u32, b: u32, a: u32, bad: u32) -> u32
-    ensures { λ r. ⌜ r ≡ under-access i b a bad ⌝ }
-{
-    let c = under_word(i, b, a, bad / 4 % 64);
-    under_long(i, c, std::num::wrapping_add_u32(a, 2), bad / 256)
-}
-
-fn under_rest(i: u32, b: u32, a: u32, op: u32, sr: u32, pc: u32) -> u32
-    ensures { λ r. ⌜ r ≡ under-rest i b a op sr pc ⌝ }
-{
-    let c = under_word(i, b, a, op);
-    under_small(i, c, std::num::wrapping_add_u32(a, 2), sr, pc)
-}
-
-fn under_big(i: u32, b: u32, a: u32, bad: u32, op: u32, sr: u32, pc: u32) -> u32
-    ensures { λ r. ⌜ r ≡ under-big i b a bad op sr pc ⌝ }
-{
-    let c = under_access(i, b, a, bad);
-    under_rest(i, c, std::num::wrapping_add_u32(a, 6), op, sr, pc)
-}
-
 // Whether the handler of a fault can be entered once its frame is written. A fault's vector is below 4: one test is enough.
 fn big_enters(mem: &[u8], a: u32, bad: u32, op: u32, sr: u32, pc: u32) -> bool
     ensures { λ r. ⌜ r ≡ can-enter (view-of (big-frame (now (mem .entry)) a bad op sr pc)) (bad % 4) ⌝ }
@@ -248,7 +145,7 @@ fn big_enters(mem: &[u8], a: u32, bad: u32, op: u32, sr: u32, pc: u32) -> bool
         let at = i as usize;
         let inside = at < mem.len();
         if inside {
-            let c = under_big(i, bits::wide(mem[at]), a, bad, op, sr, pc);
+            let c = frames::under_big(i, bits::wide(mem[at]), a, bad, op, sr, pc);
             return c % 2 == 0;
         }
         return true;
@@ -285,7 +182,7 @@ fn fault_taken(
     let sr = s[codes::SR];
     let a = bits::minus(s[codes::SSP], 14);
     let pc = std::num::wrapping_add_u32(s[codes::PC], 2);
-    let k = big_frame(mem, log, n, a, bad, op, sr, pc);
+    let k = frames::big_frame(mem, log, n, a, bad, op, sr, pc);
     enter(s, mem, a, bad % 4, supervisor_sr(sr));
     Ended {
         n: k,

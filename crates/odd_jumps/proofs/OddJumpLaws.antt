@@ -1,6 +1,6 @@
 -- OddJumpLaws.antt - K3's theorem: a step that makes one of the nine jumps to an odd address leaves what `AsAsked` says.
 -- planned: each of the nine hands its target to `jump`; frame-is: the frame in words; fails: such a step is that fault; odd-jumps: the theorem.
--- Uses: bits, bus, operand, plan, decode, control, system, bank, exception, clocks, execute, step.
+-- Uses: bits, bus, operand, plan, decode, control, system, bank, frames, exception, clocks, execute, step.
 use Prim.Native.Nat.{ℕ, _+_, _%_, _/_, _<_}
 use native.Mathlib.Omega.{arith}
 use mathlib.Core.Path.{_≡_, refl, sym, ap, _∙_}
@@ -23,8 +23,8 @@ use Rattle.decode.specs.Rows.{kind-of, privileged}
 use Rattle.control.specs.Control.{jump-when, branch-plan, branch-subroutine, decrement-branch, jump-plan, jump-subroutine, return-restore, return-subroutine, counted}
 use Rattle.system.specs.System.{return-exception}
 use Rattle.bank.specs.Bank.{ssp-of, pc-of, sr-of, mode-of, tracing, bank}
-use Rattle.exception.specs.Exceptions.{Stepped, fresh, supervisor-sr, handler, can-enter, enter, halted, small-frame, big-room, fault-access, fault-rest, big-frame}
-use Rattle.exception.specs.Exceptions.{big-ready, fault-taken, fault}
+use Rattle.frames.specs.Frames.{small-frame, fault-access, fault-rest, big-frame}
+use Rattle.exception.specs.Exceptions.{Stepped, fresh, supervisor-sr, handler, can-enter, enter, halted, big-room, big-ready, fault-taken, fault}
 use Rattle.clocks.specs.Clocks.{exception-clocks}
 use Rattle.execute.specs.Dispatch.{control-kind, system-kind, dispatch, as-user, execute}
 use Rattle.step.specs.Steps.{Attempt, checked, attempt, conclude, instruction, one-step, ended-clocks, step-clocks}

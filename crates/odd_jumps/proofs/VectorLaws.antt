@@ -1,6 +1,6 @@
 -- VectorLaws.antt - an odd address in vector 2 or 3, as it stands once the frame is written, halts whoever reads it; every other handler is gone to.
 -- odd-vector-halts and other-vector-taken: of an exception; odd-interrupt-halts: of a step that an interrupt takes; odd-fault-halts: of a fault.
--- Uses: bits, bus, bank, exception, step.
+-- Uses: bits, bus, bank, frames, exception, step.
 use Prim.Native.Nat.{ℕ, _%_, _/_}
 use mathlib.Core.Path.{_≡_, refl, sym, _∙_}
 use mathlib.Core.Bool.{Bool, true, false, _&&_, _||_}
@@ -11,8 +11,8 @@ use Rattle.codes.specs.Codes.{Mask, TopLevel, event-of}
 use Rattle.bits.specs.Bits.{plus, minus}
 use Rattle.bus.specs.Bus.{View, view-of, fault-vector}
 use Rattle.bank.specs.Bank.{ssp-of, pc-of, sr-of}
-use Rattle.exception.specs.Exceptions.{halted, handler, of-fault, can-enter, enter, small-room, small-frame, small-ready, exception, big-room, big-frame}
-use Rattle.exception.specs.Exceptions.{big-ready, fault}
+use Rattle.frames.specs.Frames.{small-frame, big-frame}
+use Rattle.exception.specs.Exceptions.{halted, handler, of-fault, can-enter, enter, small-room, small-ready, exception, big-room, big-ready, fault}
 use Rattle.step.specs.Steps.{interrupt-sr, interrupt, one-step}
 use Rattle.step.proofs.StepLaws.{step-interrupted}
 

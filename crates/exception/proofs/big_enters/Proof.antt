@@ -1,4 +1,4 @@
-use Rattle.exception.proofs.UnderLaws.{big-enters-inside, big-enters-outside, big-enters-other}
+use Rattle.exception.proofs.EnterLaws.{big-enters-inside, big-enters-outside, big-enters-other}
 use borrow.Author.Needs.{needs}
 use Rattle.exception.proofs.big_enters.Statement.{statement}
 use Rattle.exception.proofs.big_enters.Tie as tie

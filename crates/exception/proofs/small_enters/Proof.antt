@@ -1,4 +1,4 @@
-use Rattle.exception.proofs.UnderLaws.{other-enters, small-enters-inside, small-enters-outside}
+use Rattle.exception.proofs.EnterLaws.{other-enters, small-enters-inside, small-enters-outside}
 use borrow.Author.Needs.{needs}
 use Rattle.exception.proofs.small_enters.Statement.{statement}
 use Rattle.exception.proofs.small_enters.Tie as tie

@@ -1,8 +1,8 @@
 use Rattle.touch.proofs.TouchLaws.{noted-then}
-use Rattle.exception.proofs.ExceptionLaws.{fault-access-is}
+use Rattle.frames.proofs.FrameLaws.{fault-access-is}
 use borrow.Author.Needs.{needs}
-use Rattle.exception.proofs.fault_access.Statement.{statement}
-use Rattle.exception.proofs.fault_access.Tie as tie
+use Rattle.frames.proofs.fault_access.Statement.{statement}
+use Rattle.frames.proofs.fault_access.Tie as tie
 
 pub fault-access-spec : {M : Type 1} → statement M
 fault-access-spec =

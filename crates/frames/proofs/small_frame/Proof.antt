@@ -1,8 +1,8 @@
 use Rattle.touch.proofs.TouchLaws.{noted-then}
-use Rattle.exception.proofs.ExceptionLaws.{small-frame-is}
+use Rattle.frames.proofs.FrameLaws.{small-frame-is}
 use borrow.Author.Needs.{needs}
-use Rattle.exception.proofs.small_frame.Statement.{statement}
-use Rattle.exception.proofs.small_frame.Tie as tie
+use Rattle.frames.proofs.small_frame.Statement.{statement}
+use Rattle.frames.proofs.small_frame.Tie as tie
 
 pub small-frame-spec : {M : Type 1} → statement M
 small-frame-spec =

@@ -1,8 +1,8 @@
 use Rattle.touch.proofs.TouchLaws.{noted-then}
-use Rattle.exception.proofs.ExceptionLaws.{fault-rest-is}
+use Rattle.frames.proofs.FrameLaws.{fault-rest-is}
 use borrow.Author.Needs.{needs}
-use Rattle.exception.proofs.fault_rest.Statement.{statement}
-use Rattle.exception.proofs.fault_rest.Tie as tie
+use Rattle.frames.proofs.fault_rest.Statement.{statement}
+use Rattle.frames.proofs.fault_rest.Tie as tie
 
 pub fault-rest-spec : {M : Type 1} → statement M
 fault-rest-spec =

@@ -1,8 +1,8 @@
 use Rattle.touch.proofs.TouchLaws.{noted-then}
-use Rattle.exception.proofs.ExceptionLaws.{big-frame-is}
+use Rattle.frames.proofs.FrameLaws.{big-frame-is}
 use borrow.Author.Needs.{needs}
-use Rattle.exception.proofs.big_frame.Statement.{statement}
-use Rattle.exception.proofs.big_frame.Tie as tie
+use Rattle.frames.proofs.big_frame.Statement.{statement}
+use Rattle.frames.proofs.big_frame.Tie as tie
 
 pub big-frame-spec : {M : Type 1} → statement M
 big-frame-spec =

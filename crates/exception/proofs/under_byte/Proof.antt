@@ -1,6 +1,0 @@
-use Rattle.exception.proofs.ExceptionLaws.{under-here, under-elsewhere}
-use Rattle.exception.proofs.under_byte.Statement.{statement}
-use Rattle.exception.proofs.under_byte.Tie as tie
-
-pub under-byte-spec : {M : Type 1} → statement M
-under-byte-spec = tie.close (tie.spec (λ c. search under-here) (λ c. search under-elsewhere))
