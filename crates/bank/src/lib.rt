@@ -2,8 +2,7 @@
 // Means: specs/Bank.antt.  Laws: proofs/BankLaws.antt.
 // Uses: codes, bits, flags, bus, plan.  Source: [003 2.13.1], [003 4.2], [01 State], [01 step 5], [01 Easy slips].
 ghost use mathlib.Core.Path.{_≡_};
-ghost use Prim.Native.Nat.{ℕ, _+_, _*_, _%_, _/_, _<_, _≤_};
-ghost use lib.ListN.{getD, set};
+ghost use Prim.Native.Nat.{_*_, _%_, _/_};
 ghost use Rattle.bank.specs.Bank.{supervisor, tracing, bank, mode-after, slots-of, settle};
 use codes::SLOTS;
 use plan::Plan;

@@ -2,7 +2,7 @@
 // Means: specs/Bits.antt.  Laws: proofs/BitsLaws.antt.
 // Uses: nothing.  Source: [003 2.2], [003 B.4], [ours].
 ghost use mathlib.Core.Path.{_≡_};
-ghost use Prim.Native.Nat.{ℕ, _+_, _*_, _%_, _/_, _<_, _≤_};
+ghost use Prim.Native.Nat.{_+_, _*_, _%_, _<_, _≤_};
 ghost use Rattle.bits.specs.Bits.{bit, modulus, half, low, minus, joined, sign-byte, sign-word, sign-extended};
 
 // A byte as a wider number.

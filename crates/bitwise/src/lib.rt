@@ -3,7 +3,6 @@
 // Uses: codes, bits, flags, alu, shift, bus, operand, plan.  Source: [003 3.5], [003 3.6], [003 B], [01 Arithmetic].
 ghost use mathlib.Core.Path.{_≡_};
 ghost use Rattle.bus.specs.Bus.{view-of};
-ghost use Rattle.plan.specs.Plans.{Done};
 ghost use Rattle.bitwise.specs.Bitwise.{shift-count, shift-place, shift-register, shift-memory, bit-size, bit-place, bit-dynamic, bit-static};
 use bus::Flow;
 use codes::SLOTS;

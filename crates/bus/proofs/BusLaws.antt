@@ -1,9 +1,9 @@
 -- BusLaws.antt - one law for each return of the functions of bus: the two leaf reads on memory itself, all others over any view.
 -- Only the leaf laws open `view-of`.
 -- Uses: bits.
-use Prim.Native.Nat.{ℕ, _+_, _*_, _%_, _/_}
+use Prim.Native.Nat.{ℕ, _+_, _*_, _%_}
 use mathlib.Core.Path.{_≡_}
-use mathlib.Core.Bool.{Bool, true, false}
+use mathlib.Core.Bool.{true, false}
 use mathlib.Core.List.{List}
 use lib.ListN.{length, getD}
 use lib.Dec.{ltb, eqb}

@@ -2,7 +2,7 @@
 // Means: specs/Bus.antt.  Laws: proofs/BusLaws.antt.
 // Uses: codes, bits.  Source: [003 2.4], [003 4-1], [003 4.4.9], [003 4.4.10], [01 Memory], [01 step 6], [01 step 7].
 ghost use mathlib.Core.Path.{_≡_};
-ghost use Prim.Native.Nat.{ℕ, _+_, _*_, _%_, _/_, _<_, _≤_};
+ghost use Prim.Native.Nat.{_+_, _*_, _%_, _/_, _<_};
 ghost use Rattle.bus.specs.Bus.{view-of, failed, with-pc, with-sr, read-byte, read-word, read-long, read-sized, room, next-word, next-long};
 
 // Where an instruction stands: the next word's address, the status register, and the fault so far, 0 if none: the 24-bit address

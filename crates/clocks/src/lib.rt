@@ -2,7 +2,7 @@
 // Means: specs/Clocks.antt.  Laws: proofs/ClockLaws.antt, proofs/UnrolledLaws.antt.
 // Uses: codes, bits, flags, bus, operand, bitwise.  Source: [003 D], [K2].
 ghost use mathlib.Core.Path.{_≡_};
-ghost use Prim.Native.Nat.{ℕ, _%_, _<_};
+ghost use Prim.Native.Nat.{_%_, _<_};
 ghost use lib.Count.{onesIn};
 ghost use Rattle.bus.specs.Bus.{view-of};
 ghost use Rattle.clocks.specs.Clocks.{place, operand-clocks, by-long, general, sized, addressed, narrow, paired, peripheral, moved, located, jumped};

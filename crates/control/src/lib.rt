@@ -3,7 +3,7 @@
 // Uses: codes, bits, flags, bus, operand, plan.  Source: [003 3.8], [003 B], [01 step 6], [01 Operands], [01 Easy slips].
 ghost use mathlib.Core.Path.{_≡_};
 ghost use Rattle.bus.specs.Bus.{view-of};
-ghost use Rattle.plan.specs.Plans.{Done, nothing};
+ghost use Rattle.plan.specs.Plans.{nothing};
 ghost use Rattle.control.specs.Control.{displacement, jump-when, counted, branch-plan, branch-subroutine, decrement-branch, set-condition};
 ghost use Rattle.control.specs.Control.{jump-plan, jump-subroutine, return-restore, return-subroutine};
 use bus::Fetched;

@@ -2,9 +2,8 @@
 // Means: specs/Dispatch.antt, specs/Lines.antt of clocks.  Laws: proofs/ClockLaws.antt, proofs/DispatchLaws.antt.
 // Uses: codes, bits, bus, plan, clocks, movement, movem, integer, bitwise, control, system.  Source: [003 3], [003 D], [K2].
 ghost use mathlib.Core.Path.{_≡_};
-ghost use Prim.Native.Nat.{ℕ, _+_, _<_};
+ghost use Prim.Native.Nat.{_+_, _<_};
 ghost use Rattle.bus.specs.Bus.{view-of};
-ghost use Rattle.plan.specs.Plans.{Done};
 ghost use Rattle.decode.specs.Kinds.{Illegal, Move, AddToRegister, AndToRegister, Bcc, AndIToCcr};
 ghost use Rattle.clocks.specs.Lines.{clocks};
 ghost use Rattle.execute.specs.Dispatch.{refused-plan, refused-kind, movement-kind, integer-kind, logical-kind, control-kind, system-kind};

@@ -2,10 +2,9 @@
 // Means: specs/Dispatch.antt.  Laws: proofs/DispatchLaws.antt, proofs/ClockLaws.antt.
 // Uses: codes, bus, operand, plan, clocks, decode, movement, control.  Source: [01 step 2], [01 step 4], [003 4.4.7], [K2].
 ghost use mathlib.Core.Path.{_≡_};
-ghost use Prim.Native.Nat.{ℕ, _+_, _*_, _%_, _/_, _<_, _≤_};
+ghost use Prim.Native.Nat.{_%_, _/_, _<_, _≤_};
 ghost use lib.ListN.{length};
 ghost use Rattle.bus.specs.Bus.{view-of};
-ghost use Rattle.plan.specs.Plans.{Done};
 ghost use Rattle.execute.specs.Dispatch.{dispatch, as-user, execute, user-clocks, own-clocks, after-branch};
 ghost use Rattle.clocks.specs.Lines.{clocks};
 use bus::Flow;

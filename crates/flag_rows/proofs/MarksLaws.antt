@@ -9,7 +9,7 @@ use lib.Dec.{leb, eqb}
 use Rattle.bits.specs.Bits.{bit, half}
 use Rattle.bits.proofs.BitsLaws.{bit-bound}
 use Rattle.flags.specs.Flags.{flags, x-of, n-of, z-of, v-of, c-of}
-use Rattle.flag_rows.specs.Marks.{Row, row, Follows, Obeys}
+use Rattle.flag_rows.specs.Marks.{Row, Follows, Obeys}
 
 test-of-bit : (k : ℕ) (b : Bool) → k ≡ bit b → eqb k 1 ≡ b
 test-of-bit k true e = rw e

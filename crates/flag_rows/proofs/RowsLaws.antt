@@ -10,7 +10,7 @@ use lib.ListN.{getD, length}
 use lib.Dec.{ltb, leb, eqb}
 use lib.Bits.{bitAnd}
 use Rattle.bits.specs.Bits.{pick, half, low, by-size}
-use Rattle.flags.specs.Flags.{flags, n-of}
+use Rattle.flags.specs.Flags.{n-of}
 use Rattle.alu.specs.declared.Outcome.{Outcome}
 use Rattle.alu.specs.Alu.{sum, difference, concluded, continued, compare, moved, bit-number, bit-operation, tas, biased, check}
 use Rattle.decimal.specs.Decimal.{decimal-result, decimal-add, decimal-subtract}

@@ -2,8 +2,7 @@
 // Means: specs/Flags.antt.  Laws: proofs/FlagsLaws.antt.
 // Uses: codes, bits.  Source: [003 1.2], [003 A-2], [003 B DBcc], [003 B MOVE to CCR], [01 What the box emulates].
 ghost use mathlib.Core.Path.{_≡_};
-ghost use Prim.Native.Nat.{ℕ, _+_, _*_, _%_, _/_, _<_, _≤_};
-ghost use lib.Dec.{eqb};
+ghost use Prim.Native.Nat.{_+_, _*_, _%_, _/_, _<_};
 ghost use Rattle.flags.specs.Flags.{flags, x-of, n-of, z-of, v-of, c-of, with-ccr, sr-bits, condition, condition-by};
 
 // A result and the five flags that go with it.

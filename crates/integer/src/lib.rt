@@ -3,7 +3,6 @@
 // Uses: codes, bits, flags, alu, decimal, multiply_divide, bus, operand, plan.
 ghost use mathlib.Core.Path.{_≡_};
 ghost use Rattle.bus.specs.Bus.{view-of};
-ghost use Rattle.plan.specs.Plans.{Done};
 ghost use Rattle.integer.specs.Integer.{binary, address-sum, continuing, unary-result, product-by, quotient-by, only-flags, into-register};
 ghost use Rattle.integer.specs.Integer.{onto, alone};
 ghost use Rattle.integer.specs.Integer.{to-register, to-memory, immediate-to, compare-immediate, quick-to, quick-sum, to-address};

@@ -2,7 +2,7 @@
 // Means: specs/Movem.antt.  Laws: proofs/MovemLaws.antt, proofs/BlockLaws.antt, proofs/DownLaws.antt.
 // Uses: codes, bits, bus, operand, plan, store, touch.  Source: [003 B MOVEM], [003 B MOVEP], [01 step 6], [01 Operands].
 ghost use mathlib.Core.Path.{_≡_};
-ghost use Prim.Native.Nat.{ℕ, _+_, _*_, _%_, _/_, _<_, _≤_};
+ghost use Prim.Native.Nat.{_+_, _*_, _%_, _/_, _<_, _≤_};
 ghost use lib.ListN.{length};
 ghost use lib.Count.{onesIn};
 ghost use Rattle.bus.specs.Bus.{view-of};

@@ -2,11 +2,10 @@
 // Means: specs/Movement.antt.  Laws: proofs/MovementLaws.antt.
 // Uses: codes, bits, bus, operand, flags, alu, plan.  Source: [003 3.2], [003 B], [01 step 6], [01 Operands].
 ghost use mathlib.Core.Path.{_≡_};
-ghost use Prim.Native.Nat.{ℕ, _+_, _*_, _%_, _/_, _<_, _≤_};
+ghost use Prim.Native.Nat.{_+_, _*_, _%_, _/_, _<_};
 ghost use Rattle.bits.specs.Bits.{minus};
 ghost use Rattle.bus.specs.Bus.{view-of};
-ghost use Rattle.operand.specs.Operands.{Modify, get, put};
-ghost use Rattle.plan.specs.Plans.{Done};
+ghost use Rattle.operand.specs.Operands.{get, put};
 ghost use Rattle.movement.specs.Movement.{move-size, move-operands, move-data, move-address, move-quick, load-address, push-address, exchange};
 ghost use Rattle.movement.specs.Movement.{exchange-data, exchange-address, exchange-both, swap, link, unlink, every-other-word, every-other};
 ghost use Rattle.movement.specs.Movement.{movep-to-register, movep-to-memory};

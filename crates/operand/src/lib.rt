@@ -2,8 +2,7 @@
 // Means: specs/Operands.antt.  Laws: proofs/OperandLaws.antt.
 // Uses: codes, bits, bus.  Source: [003 2.3], [003 2.7], [003 2.11], [01 Operands], [01 step 7].
 ghost use mathlib.Core.Path.{_≡_};
-ghost use Prim.Native.Nat.{ℕ, _+_, _*_, _%_, _/_, _<_, _≤_};
-ghost use lib.ListN.{getD, set};
+ghost use Prim.Native.Nat.{_+_, _%_, _/_, _<_};
 ghost use Rattle.bus.specs.Bus.{view-of};
 ghost use Rattle.operand.specs.Operands.{get, put, increment, in-register, in-memory, number, indirect, postincrement, predecrement, displaced};
 ghost use Rattle.operand.specs.Operands.{index-value, with-index, indexed, absolute-word, absolute-long, pc-displaced, pc-indexed, immediate};

@@ -2,8 +2,8 @@
 // Means: specs/Plans.antt.  Laws: proofs/PlanLaws.antt.
 // Uses: codes, bits, flags, bus, operand.  Source: [003 4.4.5], [003 4.4.10], [01 step 3], [01 step 6], [K3], [ours].
 ghost use mathlib.Core.Path.{_≡_};
-ghost use Prim.Native.Nat.{ℕ, _+_, _*_, _%_, _/_, _<_, _≤_};
-ghost use Rattle.plan.specs.Plans.{Done, flagged, jump, nothing, trapping, refusing, stopping, writing, finish, push, quick};
+ghost use Prim.Native.Nat.{_+_, _*_, _%_, _/_};
+ghost use Rattle.plan.specs.Plans.{flagged, jump, nothing, trapping, refusing, stopping, writing, finish, push, quick};
 use bus::Flow;
 use codes::SLOTS;
 use flags::Flagged;

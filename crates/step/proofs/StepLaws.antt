@@ -8,7 +8,7 @@ use mathlib.Core.List.{List}
 use lib.Dec.{ltb, eqb}
 use borrow.Author.Tests.{eqb-true, not-true}
 use Rattle.codes.specs.Codes.{Mask, TopLevel}
-use Rattle.bits.specs.Bits.{pick, bit}
+use Rattle.bits.specs.Bits.{bit}
 use Rattle.bits.proofs.BitsLaws.{and-left, and-right}
 use Rattle.bus.specs.declared.Flow.{Flow}
 use Rattle.bus.specs.declared.Fetched.{Fetched}

@@ -2,7 +2,7 @@
 -- Its clocks stand behind it: `step-clocks`. Not modelled: prefetch, bus cycles, the edge of level 7.
 -- Laws: proofs/StepLaws.antt, proofs/ClockLaws.antt, proofs/LargestLaws.antt.  Source: [003 4.1], [003 4.4.2], [003 4.4.8], [003 D], [01 One step], [K2].
 use Prim.Native.Nat.{ℕ, _+_, _*_, _%_, _/_}
-use mathlib.Core.Bool.{Bool, true, false, _&&_, _||_, not}
+use mathlib.Core.Bool.{Bool, _&&_, _||_, not}
 use mathlib.Core.List.{List}
 use lib.Dec.{ltb, eqb}
 use Rattle.codes.specs.Codes.{Running, Halted, Mask, Supervisor, TopLevel, IllegalInstruction, PrivilegeViolation, TraceVector, Line1010, Line1111}

@@ -2,12 +2,12 @@
 // Means: specs/Steps.antt.  Laws: proofs/StepLaws.antt, proofs/NotedLaws.antt, proofs/ClockLaws.antt.
 // Uses: codes, bits, bus, plan, clocks, movem, store, touch, bank, exception, execute.  Source: [003 4.1], [003 4.4.2], [003 4.4.8], [01 One step], [K2].
 ghost use mathlib.Core.Path.{_≡_};
-ghost use Prim.Native.Nat.{ℕ, _+_, _≤_, _<_};
+ghost use Prim.Native.Nat.{_+_, _≤_, _<_};
 ghost use lib.ListN.{length};
 ghost use Rattle.bank.specs.Bank.{settle};
 ghost use Rattle.bus.specs.Bus.{view-of};
 ghost use Rattle.touch.specs.Touch.{LogOk, Noted};
-ghost use Rattle.step.specs.Steps.{plan-with-flow, checked, Attempt, attempt, commit, trap-of, take-trap, traced, both, carry-out, conclude};
+ghost use Rattle.step.specs.Steps.{plan-with-flow, checked, attempt, commit, trap-of, take-trap, traced, both, carry-out, conclude};
 ghost use Rattle.step.specs.Steps.{instruction, interrupt-sr, interrupt, one-step, trap-clocks, trace-clocks, ended-clocks};
 ghost use Rattle.step.specs.Steps.{concluded-clocks, instruction-clocks, interrupt-clocks, step-clocks};
 use bus::Flow;

@@ -4,7 +4,7 @@
 ghost use mathlib.Core.Path.{_≡_};
 ghost use Prim.Native.Nat.{_+_, _%_};
 ghost use Rattle.bus.specs.Bus.{view-of};
-ghost use Rattle.plan.specs.Plans.{Done, nothing};
+ghost use Rattle.plan.specs.Plans.{nothing};
 ghost use Rattle.system.specs.System.{logic, immediate-to-ccr-plan, immediate-to-sr-plan, move-from-sr, move-to-ccr, move-to-sr};
 ghost use Rattle.system.specs.System.{register-moved, return-exception, stop-plan, trap-plan, trap-overflow-plan, check-bounds};
 use bus::Flow;

@@ -1,5 +1,4 @@
 use Rattle.step.proofs.ClockLaws.{interrupt-counts, interrupt-halts}
-use borrow.Author.Needs.{needs}
 use Rattle.step.proofs.interrupt_clocks.Statement.{statement}
 use Rattle.step.proofs.interrupt_clocks.Tie as tie
 
