@@ -1,3 +1,4 @@
+pub mod BranchLaws
 pub mod FlowLaws
 pub mod OddJumpLaws
 pub mod VectorLaws
