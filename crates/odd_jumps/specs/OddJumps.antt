@@ -71,7 +71,7 @@ pulled-second r v f =
     let c = source r v Postincrement StackPointer Word f in
     pulled (source (c .r) v Postincrement StackPointer Long (c .w .flow) .w)
 
--- each of the nine, from registers, view, operation word and the flow behind it; BRA's condition is T  [003 B] [K3]
+-- each of the nine, from registers, view, operation word and the flow behind it; BRA's condition is T (bra-made)  [003 B] [K3]
 abbrev pub leads : Nine → List ℕ → View → ℕ → Flow → Leads
 leads bcc r v op f = displaced (condition (f .sr) (condition-field op)) f (displacement v op f .value) (displacement v op f .flow)
 leads bra r v op f = displaced (condition (f .sr) (condition-field op)) f (displacement v op f .value) (displacement v op f .flow)
