@@ -1,0 +1,7 @@
+pub mod StartLaws
+pub mod SkipLaws
+pub mod WrapLaws
+pub mod PostLaws
+pub mod NearLaws
+pub mod HeldLaws
+pub mod KeepLaws
