@@ -1,12 +1,13 @@
--- CallLaws.antt - the laws that the four functions cite: refusal 9, and a call of the machine whose slots were read and written back.
+-- CallLaws.antt - the laws that the functions of ibezofanle cite: refusal 9, and a call of the machine whose slots were read and written back.
 -- * on-block-held: a call on a block that fits.
--- * ibz-reset-nine, .. -step-, -run-, -undo-nine; ibz-reset-held, .. -step-, -run-, -undo-held: the same as promises.
--- Source: [K1].
+-- * ibz-reset-nine, .. -step-, -run-, -undo-nine; ibz-reset-held, .. -step-, -run-, -undo-held: the same as promises, of either manner.
+-- Source: [K1], [K5].
 use Prim.Native.Nat.{ℕ}
 use mathlib.Core.Path.{_≡_, ap, subst, _∙_}
 use mathlib.Core.List.{List}
 use lib.ListN.{length}
 use borrow.Author.Tests.{eq-eqb, ne-eqb}
+use Rattle.calls.specs.declared.Manner.{Manner}
 use Rattle.calls.specs.declared.StepAnswer.{StepAnswer}
 use Rattle.calls.specs.declared.RunAnswer.{RunAnswer}
 use Rattle.calls.specs.declared.UndoAnswer.{UndoAnswer}
@@ -33,33 +34,33 @@ module _ (b m : List ℕ) where
       let y = eq-eqb (length b) block-length e in record { block = rw y (q ∙ ap block-of (p .slots)); answer = rw (y, p .number-is) }
 
 -- ---- step
-module _ (b m : List ℕ) (level vector : ℕ) (j : List ℕ) (mark : ℕ) where
-  pub ibz-step-nine : (length b ≡ block-length → ⊥) → IbzStepPromise b m level vector j mark b m j (step-refusal mark no-block)
+module _ (w : Manner) (b m : List ℕ) (level vector : ℕ) (j : List ℕ) (mark : ℕ) where
+  pub ibz-step-nine : (length b ≡ block-length → ⊥) → IbzStepPromise w b m level vector j mark b m j (step-refusal mark no-block)
   unfolding ibz-step
   ibz-step-nine h = let y = ne-eqb (length b) block-length h in record { block = rw y; memory = rw y; journal = rw y; answer = rw y }
 
   pub ibz-step-held : length b ≡ block-length → (s s₁ m₁ j₁ : List ℕ) (a : StepAnswer) → s ≡ slots-in b
-      → StepPromise s m level vector j mark s₁ m₁ j₁ a
-      → (b₁ : List ℕ) → b₁ ≡ block-of s₁ → IbzStepPromise b m level vector j mark b₁ m₁ j₁ a
+      → StepPromise w s m level vector j mark s₁ m₁ j₁ a
+      → (b₁ : List ℕ) → b₁ ≡ block-of s₁ → IbzStepPromise w b m level vector j mark b₁ m₁ j₁ a
   unfolding ibz-step
   ibz-step-held e s s₁ m₁ j₁ a l p b₁ q =
       let y = eq-eqb (length b) block-length e in
-      let p′ = subst (λ (t : List ℕ). StepPromise t m level vector j mark s₁ m₁ j₁ a) l p in
+      let p′ = subst (λ (t : List ℕ). StepPromise w t m level vector j mark s₁ m₁ j₁ a) l p in
       record { block = rw y (q ∙ ap block-of (p′ .slots)); memory = rw y (p′ .memory); journal = rw y (p′ .journal); answer = rw y (p′ .answer) }
 
 -- ---- run
-module _ (b m : List ℕ) (budget stop : ℕ) (j : List ℕ) (mark : ℕ) where
-  pub ibz-run-nine : (length b ≡ block-length → ⊥) → IbzRunPromise b m budget stop j mark b m j (run-refusal mark no-block)
+module _ (w : Manner) (b m : List ℕ) (budget stop : ℕ) (j : List ℕ) (mark : ℕ) where
+  pub ibz-run-nine : (length b ≡ block-length → ⊥) → IbzRunPromise w b m budget stop j mark b m j (run-refusal mark no-block)
   unfolding ibz-run
   ibz-run-nine h = let y = ne-eqb (length b) block-length h in record { block = rw y; memory = rw y; journal = rw y; answer = rw y }
 
   pub ibz-run-held : length b ≡ block-length → (s s₁ m₁ j₁ : List ℕ) (a : RunAnswer) → s ≡ slots-in b
-      → RunPromise s m budget stop j mark s₁ m₁ j₁ a
-      → (b₁ : List ℕ) → b₁ ≡ block-of s₁ → IbzRunPromise b m budget stop j mark b₁ m₁ j₁ a
+      → RunPromise w s m budget stop j mark s₁ m₁ j₁ a
+      → (b₁ : List ℕ) → b₁ ≡ block-of s₁ → IbzRunPromise w b m budget stop j mark b₁ m₁ j₁ a
   unfolding ibz-run
   ibz-run-held e s s₁ m₁ j₁ a l p b₁ q =
       let y = eq-eqb (length b) block-length e in
-      let p′ = subst (λ (t : List ℕ). RunPromise t m budget stop j mark s₁ m₁ j₁ a) l p in
+      let p′ = subst (λ (t : List ℕ). RunPromise w t m budget stop j mark s₁ m₁ j₁ a) l p in
       record { block = rw y (q ∙ ap block-of (p′ .slots)); memory = rw y (p′ .memory); journal = rw y (p′ .journal); answer = rw y (p′ .answer) }
 
 -- ---- undo

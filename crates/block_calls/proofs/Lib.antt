@@ -2,4 +2,5 @@ pub mod PromiseLaws
 pub mod CallLaws
 pub mod RefusalLaws
 pub mod GoingBack
+pub mod GoingBackDropping
 pub mod ClockLaws

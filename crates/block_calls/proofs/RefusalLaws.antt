@@ -5,7 +5,7 @@
 -- * ibz-step-refused, ibz-run-refused, ibz-undo-refused: a call whose number is not 0, 9 or another, gives back block, memory, journal and mark
 --   as given, byte for byte, and 0 for the rest.
 -- * ibz-reset-refused: a reset refused by 1 leaves the block of the fixed state; ibz-reset-at-nine: one refused by 9 leaves the block.
--- Source: [K1], [01 Calls and what they give back].
+-- Source: [K1], [K5], [01 Calls and what they give back].
 use Prim.Native.Nat.{ℕ, _<_}
 use mathlib.Core.Path.{_≡_, refl, sym, ap, subst, _∙_}
 use mathlib.Core.Logic.{_↔_}
@@ -16,6 +16,8 @@ use lib.ListN.{length}
 use borrow.Author.Tests.{eqb-true, eqb-false, eq-eqb, ne-eqb}
 use Rattle.bits.specs.Bits.{pick}
 use Rattle.record.specs.Limits.{ValidBytes}
+use Rattle.calls.specs.declared.Manner.{Manner}
+use Rattle.calls.specs.declared.Manner.the-variants.{Dropping, Keeping}
 use Rattle.calls.specs.declared.StepAnswer.{StepAnswer}
 use Rattle.calls.specs.declared.RunAnswer.{RunAnswer}
 use Rattle.calls.specs.declared.UndoAnswer.{UndoAnswer}
@@ -126,47 +128,51 @@ module _ (b m : List ℕ) where
   ibz-reset-refused e h = rw (eq-eqb (length b) block-length e) (ap block-of (reset-refused m h))
 
 -- ---- step
-module _ (b m : List ℕ) (level vector : ℕ) (j : List ℕ) (mark : ℕ) where
+module _ (w : Manner) (b m : List ℕ) (level vector : ℕ) (j : List ℕ) (mark : ℕ) where
   abbrev stepped : StepCall
-  stepped = step-call (slots-in b) m level vector j mark
+  stepped = step-call w (slots-in b) m level vector j mark
 
   abbrev step-lines : List Line
-  step-lines = step-table (slots-in b) m level j mark
+  step-lines = step-table w (slots-in b) m level j mark
 
-  pub ibz-step-verdict : IbzVerdict b (ibz-step-table b m level j mark) step-lines (ibz-step b m level vector j mark .a .number)
+  pub ibz-step-verdict : IbzVerdict b (ibz-step-table w b m level j mark) step-lines (ibz-step w b m level vector j mark .a .number)
   unfolding ibz-step
   ibz-step-verdict =
-      let v = step-verdict (slots-in b) m level j mark vector in
-      ibz-verdict b step-lines (stepped .a .number) v (omega arith) (λ (c : OnBlock StepAnswer). c .a .number) _ _ refl refl
+      let v = step-verdict w (slots-in b) m level j mark vector in
+      ibz-verdict b step-lines (stepped .a .number) v (below w) (λ (c : OnBlock StepAnswer). c .a .number) _ _ refl refl
+    where
+      below : (w : Manner) → BelowNine (step-table w (slots-in b) m level j mark)
+      below Dropping = omega arith
+      below Keeping = omega arith
 
-  pub ibz-step-refused : ValidBytes b → (ibz-step b m level vector j mark .a .number ≡ 0 → ⊥)
-      → (let c = ibz-step b m level vector j mark in c ≡ record { b = b; m = m; j = j; a = step-refusal mark (c .a .number) })
+  pub ibz-step-refused : ValidBytes b → (ibz-step w b m level vector j mark .a .number ≡ 0 → ⊥)
+      → (let c = ibz-step w b m level vector j mark in c ≡ record { b = b; m = m; j = j; a = step-refusal mark (c .a .number) })
   unfolding ibz-step
   ibz-step-refused bytes =
       on-block-refused (λ a. a .number) (step-refusal mark) (λ n. refl) b m j bytes (stepped .s) (stepped .m) (stepped .j) (stepped .a)
-      (λ h. let r = step-refused (slots-in b) m level j mark vector h in
+      (λ h. let r = step-refused w (slots-in b) m level j mark vector h in
       record { slots = λ i. r i .s; memory = λ i. r i .m; journal = λ i. r i .j; answer = λ i. r i .a })
 
 -- ---- run
-module _ (b m : List ℕ) (budget stop : ℕ) (j : List ℕ) (mark : ℕ) where
+module _ (w : Manner) (b m : List ℕ) (budget stop : ℕ) (j : List ℕ) (mark : ℕ) where
   abbrev ran : RunCall
-  ran = run-call (slots-in b) m budget stop j mark
+  ran = run-call w (slots-in b) m budget stop j mark
 
   abbrev run-lines : List Line
   run-lines = run-table (slots-in b) m budget j mark
 
-  pub ibz-run-verdict : IbzVerdict b (ibz-run-table b m budget j mark) run-lines (ibz-run b m budget stop j mark .a .number)
+  pub ibz-run-verdict : IbzVerdict b (ibz-run-table b m budget j mark) run-lines (ibz-run w b m budget stop j mark .a .number)
   unfolding ibz-run
   ibz-run-verdict =
-      let v = run-verdict (slots-in b) m budget j mark stop in
+      let v = run-verdict (slots-in b) m budget j mark w stop in
       ibz-verdict b run-lines (ran .a .number) v (omega arith) (λ (c : OnBlock RunAnswer). c .a .number) _ _ refl refl
 
-  pub ibz-run-refused : ValidBytes b → (ibz-run b m budget stop j mark .a .number ≡ 0 → ⊥)
-      → (let c = ibz-run b m budget stop j mark in c ≡ record { b = b; m = m; j = j; a = run-refusal mark (c .a .number) })
+  pub ibz-run-refused : ValidBytes b → (ibz-run w b m budget stop j mark .a .number ≡ 0 → ⊥)
+      → (let c = ibz-run w b m budget stop j mark in c ≡ record { b = b; m = m; j = j; a = run-refusal mark (c .a .number) })
   unfolding ibz-run
   ibz-run-refused bytes =
       on-block-refused (λ a. a .number) (run-refusal mark) (λ n. refl) b m j bytes (ran .s) (ran .m) (ran .j) (ran .a)
-      (λ h. let r = run-refused (slots-in b) m budget j mark stop h in
+      (λ h. let r = run-refused (slots-in b) m budget j mark w stop h in
       record { slots = λ i. r i .s; memory = λ i. r i .m; journal = λ i. r i .j; answer = λ i. r i .a })
 
 -- ---- undo

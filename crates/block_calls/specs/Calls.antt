@@ -1,12 +1,13 @@
 -- Calls.antt - reset, step, run and undo from C: the machine's calls on the slots that the block holds, and refusal 9 before all others.
--- After a call the block holds the returned state; at 9 nothing is read, judged or altered.
--- Uses: bits, block, calls.  Laws: proofs/.  Source: [K1], [K2].
+-- After a call the block holds the returned state; at 9 nothing is read, judged or altered. Step and run go by a manner, as the machine's.
+-- Uses: bits, block, calls.  Laws: proofs/.  Source: [K1], [K2], [K5].
 use Prim.Native.Nat.{ℕ}
 use mathlib.Core.Bool.{Bool}
 use mathlib.Core.List.{List}
 use lib.ListN.{length}
 use lib.Dec.{eqb}
 use Rattle.bits.specs.Bits.{pick}
+use Rattle.calls.specs.declared.Manner.{Manner}
 use Rattle.calls.specs.declared.StepAnswer.{StepAnswer}
 use Rattle.calls.specs.declared.RunAnswer.{RunAnswer}
 use Rattle.calls.specs.declared.UndoAnswer.{UndoAnswer}
@@ -52,27 +53,27 @@ on-block b m j refusal s₁ m₁ j₁ a =
     (record { b = block-of s₁; m = m₁; j = j₁; a = a })
     (record { b = b; m = m; j = j; a = refusal no-block })
 
--- the answer of a refused step: its number, the mark as given, 0 for the rest  [01 Calls, table] [K2]
+-- the answer of a refused step: its number, the mark as given, 0 for the rest  [01 Calls, table] [K2] [K5]
 abbrev pub step-refusal : ℕ → ℕ → StepAnswer
-step-refusal mark n = record { number = n; event = 0; mark = mark; clocks = 0 }
+step-refusal mark n = record { number = n; event = 0; mark = mark; clocks = 0; moved = 0; dropped = 0 }
 
--- the answer of a refused run: likewise  [01 Calls, table] [K2]
+-- the answer of a refused run: likewise  [01 Calls, table] [K2] [K5]
 abbrev pub run-refusal : ℕ → ℕ → RunAnswer
-run-refusal mark n = record { number = n; reason = 0; mark = mark; steps = 0; clocks = 0 }
+run-refusal mark n = record { number = n; reason = 0; mark = mark; steps = 0; clocks = 0; moved = 0; dropped = 0 }
 
 -- the answer of a refused undo: likewise  [01 Calls, table]
 abbrev pub undo-refusal : ℕ → ℕ → UndoAnswer
 undo-refusal mark n = record { number = n; mark = mark }
 
--- the machine's step on the slots that the block holds  [K1]
-unfoldable pub ibz-step : List ℕ → List ℕ → ℕ → ℕ → List ℕ → ℕ → OnBlock StepAnswer
-ibz-step b m level vector j mark =
-    let c = step-call (slots-in b) m level vector j mark in on-block b m j (step-refusal mark) (c .s) (c .m) (c .j) (c .a)
+-- the machine's step on the slots that the block holds, in either manner  [K1] [K5]
+unfoldable pub ibz-step : Manner → List ℕ → List ℕ → ℕ → ℕ → List ℕ → ℕ → OnBlock StepAnswer
+ibz-step w b m level vector j mark =
+    let c = step-call w (slots-in b) m level vector j mark in on-block b m j (step-refusal mark) (c .s) (c .m) (c .j) (c .a)
 
--- the machine's run on them  [K1]
-unfoldable pub ibz-run : List ℕ → List ℕ → ℕ → ℕ → List ℕ → ℕ → OnBlock RunAnswer
-ibz-run b m budget stop j mark =
-    let c = run-call (slots-in b) m budget stop j mark in on-block b m j (run-refusal mark) (c .s) (c .m) (c .j) (c .a)
+-- the machine's run on them, in either manner  [K1] [K5]
+unfoldable pub ibz-run : Manner → List ℕ → List ℕ → ℕ → ℕ → List ℕ → ℕ → OnBlock RunAnswer
+ibz-run w b m budget stop j mark =
+    let c = run-call w (slots-in b) m budget stop j mark in on-block b m j (run-refusal mark) (c .s) (c .m) (c .j) (c .a)
 
 -- the machine's undo on them; it only reads the journal  [K1]
 unfoldable pub ibz-undo : List ℕ → List ℕ → List ℕ → ℕ → OnBlock UndoAnswer

@@ -1,8 +1,9 @@
--- History.antt - the calls from C on one box, each given what the last one left, and what their answers tell.
+-- History.antt - the calls from C of one manner on one box, each given what the last one left, and what their answers tell.
 -- Not here: what a call does (Calls.antt); a mix of calls, and steps taken alone (History.antt of the crate calls).
--- Uses: block, calls.  Laws: proofs/GoingBack.antt.  Source: [K1], [00 demand 3].
+-- Uses: block, calls.  Laws: proofs/GoingBack.antt.  Source: [K1], [K5], [00 demand 3].
 use Prim.Native.Nat.{ℕ}
 use mathlib.Core.List.{List}
+use Rattle.calls.specs.declared.Manner.{Manner}
 use Rattle.calls.specs.declared.StepAnswer.{StepAnswer}
 use Rattle.calls.specs.declared.RunAnswer.{RunAnswer}
 use Rattle.calls.specs.declared.UndoAnswer.{UndoAnswer}
@@ -19,15 +20,7 @@ pub record Box : Type 0 where
 
 -- ---- what each call gives back on a box
 
--- ibz_step, given all that the host keeps  [K1]
-abbrev pub ibz-stepping : ℕ → ℕ → Box → OnBlock StepAnswer
-ibz-stepping level vector x = ibz-step (x .block) (x .memory) level vector (x .journal) (x .mark)
-
--- ibz_run, likewise  [K1]
-abbrev pub ibz-running : ℕ → ℕ → Box → OnBlock RunAnswer
-ibz-running budget stop x = ibz-run (x .block) (x .memory) budget stop (x .journal) (x .mark)
-
--- ibz_undo, likewise  [K1]
+-- ibz_undo, given all that the host keeps  [K1]
 abbrev pub ibz-undoing : Box → OnBlock UndoAnswer
 ibz-undoing x = ibz-undo (x .block) (x .memory) (x .journal) (x .mark)
 
@@ -35,27 +28,36 @@ ibz-undoing x = ibz-undo (x .block) (x .memory) (x .journal) (x .mark)
 abbrev pub box-left : {A : Type 0} → (A → ℕ) → OnBlock A → Box
 box-left mark c = record { block = c .b; memory = c .m; journal = c .j; mark = mark (c .a) }
 
--- the box after a call: what the next call is given  [00 demand 3]
-unfoldable pub ibz-act : Call → Box → Box
-ibz-act (step-of level vector) x = box-left (λ (a : StepAnswer). a .mark) (ibz-stepping level vector x)
-ibz-act (run-of budget stop) x = box-left (λ (a : RunAnswer). a .mark) (ibz-running budget stop x)
-ibz-act undo-once x = box-left (λ (a : UndoAnswer). a .mark) (ibz-undoing x)
+module _ (w : Manner) where
+  -- ibz_step or ibz_step_keeping, given all that the host keeps  [K1] [K5]
+  abbrev pub ibz-stepping : ℕ → ℕ → Box → OnBlock StepAnswer
+  ibz-stepping level vector x = ibz-step w (x .block) (x .memory) level vector (x .journal) (x .mark)
 
--- the number of a call's answer  [K1]
-abbrev pub ibz-number : Call → Box → ℕ
-ibz-number (step-of level vector) x = ibz-stepping level vector x .a .number
-ibz-number (run-of budget stop) x = ibz-running budget stop x .a .number
-ibz-number undo-once x = ibz-undoing x .a .number
+  -- ibz_run or ibz_run_keeping, likewise  [K1] [K5]
+  abbrev pub ibz-running : ℕ → ℕ → Box → OnBlock RunAnswer
+  ibz-running budget stop x = ibz-run w (x .block) (x .memory) budget stop (x .journal) (x .mark)
 
--- the steps that a run tells  [K1]
-abbrev pub ibz-steps : Call → Box → ℕ
-ibz-steps (step-of level vector) x = 0
-ibz-steps (run-of budget stop) x = ibz-running budget stop x .a .steps
-ibz-steps undo-once x = 0
+  -- the box after a call: what the next call is given  [00 demand 3]
+  unfoldable pub ibz-act : Call → Box → Box
+  ibz-act (step-of level vector) x = box-left (λ (a : StepAnswer). a .mark) (ibz-stepping level vector x)
+  ibz-act (run-of budget stop) x = box-left (λ (a : RunAnswer). a .mark) (ibz-running budget stop x)
+  ibz-act undo-once x = box-left (λ (a : UndoAnswer). a .mark) (ibz-undoing x)
 
--- the calls from C on a box; after, accepted, undone, NeverAhead and standing of the crate calls speak of them too  [K1]
-abbrev pub ibz-calls : Calls Box
-ibz-calls = record { next = ibz-act; number = ibz-number; steps = ibz-steps }
+  -- the number of a call's answer  [K1]
+  abbrev pub ibz-number : Call → Box → ℕ
+  ibz-number (step-of level vector) x = ibz-stepping level vector x .a .number
+  ibz-number (run-of budget stop) x = ibz-running budget stop x .a .number
+  ibz-number undo-once x = ibz-undoing x .a .number
+
+  -- the steps that a run tells  [K1]
+  abbrev pub ibz-steps : Call → Box → ℕ
+  ibz-steps (step-of level vector) x = 0
+  ibz-steps (run-of budget stop) x = ibz-running budget stop x .a .steps
+  ibz-steps undo-once x = 0
+
+  -- the calls from C on a box; after, accepted, undone, NeverAhead and standing of the crate calls speak of them too  [K1]
+  abbrev pub ibz-calls : Calls Box
+  ibz-calls = record { next = ibz-act; number = ibz-number; steps = ibz-steps }
 
 -- ---- what is compared
 

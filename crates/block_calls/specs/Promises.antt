@@ -1,9 +1,10 @@
 -- Promises.antt - all that a call from C promises: its answer, and block, memory and journal afterwards, for every input.
 -- Not here: the definitions that it names (Calls.antt).
--- Laws: proofs/PromiseLaws.antt.  Source: [K1], [01 How much each promise says].
+-- Laws: proofs/PromiseLaws.antt.  Source: [K1], [K5], [01 How much each promise says].
 use Prim.Native.Nat.{ℕ}
 use mathlib.Core.Path.{_≡_}
 use mathlib.Core.List.{List}
+use Rattle.calls.specs.declared.Manner.{Manner}
 use Rattle.calls.specs.declared.StepAnswer.{StepAnswer}
 use Rattle.calls.specs.declared.RunAnswer.{RunAnswer}
 use Rattle.calls.specs.declared.UndoAnswer.{UndoAnswer}
@@ -15,19 +16,19 @@ pub record IbzResetPromise (b m b′ : List ℕ) (a : ResetAnswer) : Type 0 wher
   pub block : b′ ≡ ibz-reset b m .b
   pub answer : a ≡ ibz-reset b m .a
 
--- step  [K1]
-pub record IbzStepPromise (b m : List ℕ) (level vector : ℕ) (j : List ℕ) (mark : ℕ) (b′ m′ j′ : List ℕ) (a : StepAnswer) : Type 0 where
-  pub block : b′ ≡ ibz-step b m level vector j mark .b
-  pub memory : m′ ≡ ibz-step b m level vector j mark .m
-  pub journal : j′ ≡ ibz-step b m level vector j mark .j
-  pub answer : a ≡ ibz-step b m level vector j mark .a
+-- step, in either manner  [K1] [K5]
+pub record IbzStepPromise (w : Manner) (b m : List ℕ) (level vector : ℕ) (j : List ℕ) (mark : ℕ) (b′ m′ j′ : List ℕ) (a : StepAnswer) : Type 0 where
+  pub block : b′ ≡ ibz-step w b m level vector j mark .b
+  pub memory : m′ ≡ ibz-step w b m level vector j mark .m
+  pub journal : j′ ≡ ibz-step w b m level vector j mark .j
+  pub answer : a ≡ ibz-step w b m level vector j mark .a
 
--- run  [K1]
-pub record IbzRunPromise (b m : List ℕ) (budget stop : ℕ) (j : List ℕ) (mark : ℕ) (b′ m′ j′ : List ℕ) (a : RunAnswer) : Type 0 where
-  pub block : b′ ≡ ibz-run b m budget stop j mark .b
-  pub memory : m′ ≡ ibz-run b m budget stop j mark .m
-  pub journal : j′ ≡ ibz-run b m budget stop j mark .j
-  pub answer : a ≡ ibz-run b m budget stop j mark .a
+-- run, in either manner  [K1] [K5]
+pub record IbzRunPromise (w : Manner) (b m : List ℕ) (budget stop : ℕ) (j : List ℕ) (mark : ℕ) (b′ m′ j′ : List ℕ) (a : RunAnswer) : Type 0 where
+  pub block : b′ ≡ ibz-run w b m budget stop j mark .b
+  pub memory : m′ ≡ ibz-run w b m budget stop j mark .m
+  pub journal : j′ ≡ ibz-run w b m budget stop j mark .j
+  pub answer : a ≡ ibz-run w b m budget stop j mark .a
 
 -- undo: the journal is lent to be read only  [K1]
 pub record IbzUndoPromise (b m j : List ℕ) (mark : ℕ) (b′ m′ : List ℕ) (a : UndoAnswer) : Type 0 where

@@ -1,9 +1,9 @@
 -- FrameLaws.antt - demand 1: what an accepted call alters of the journal and of memory, and that it alters nothing else.
--- * step-frame: below the mark given and from the mark returned on the journal is as it was; between them stands the step's record.
+-- * step-frame, where all records are kept: below the mark given and from the mark returned on the journal is as it was; between them stands the step's record.
 -- * step-memory: a byte of memory that is not in the step's record is as it was; at most byte-limit bytes are in it.
 -- * undo-memory: an undo alters no byte of memory that is not in the record that it undoes. (The journal is lent to it to be read only.)
 -- * framed-refl, framed-trans: the frame of steps in a row, which is a run's (run-frame of RunLaws).
--- Source: [01 The journal], [00 demand 1].
+-- Source: [01 The journal], [00 demand 1], [K5].
 use Prim.Native.Nat.{ℕ, zero, suc, _+_, _-_, _≤_}
 use mathlib.Core.Path.{_≡_, refl, sym, ap, _∙_}
 use mathlib.Core.Bool.{Bool, true, false}
@@ -21,6 +21,8 @@ use Rattle.record.proofs.ChangeLaws.{changed-cases}
 use Rattle.step.proofs.KeepLaws.{Kept}
 use Rattle.undo.specs.Undo.{found, well-formed}
 use Rattle.undo.proofs.UndoLaws.{undo-when-found}
+use Rattle.calls.specs.declared.Manner.{Manner}
+use Rattle.calls.specs.declared.Manner.the-variants.{Keeping}
 use Rattle.calls.specs.Calls.{undo-number, undo-call}
 use Rattle.calls.specs.History.{Machine, Request, step-of, stepping, act, seen, record-after, one-more}
 use Rattle.calls.proofs.ValidLaws.{Lent, kept-by}
@@ -97,9 +99,9 @@ restored-outside i [] m h = refl
 restored-outside i (c ∷ cs) m h = restored-outside i cs (set m (c .place) (c .old)) (h .1) ∙ getD-set-other m (c .place) i (c .old) 0 (h .0)
 
 -- ---- an accepted step
-module _ (r : Request) (x : Machine) (lent : Lent (x .slots) (x .memory)) (ok : stepping (r .level) (r .vector) x .a .number ≡ 0) where
+module _ (r : Request) (x : Machine) (lent : Lent (x .slots) (x .memory)) (ok : stepping Keeping (r .level) (r .vector) x .a .number ≡ 0) where
   abbrev y : Machine
-  y = act (step-of (r .level) (r .vector)) x
+  y = act Keeping (step-of (r .level) (r .vector)) x
 
   -- the record that the slots and the memory before and after determine
   abbrev pub recorded : List ℕ
@@ -107,21 +109,21 @@ module _ (r : Request) (x : Machine) (lent : Lent (x .slots) (x .memory)) (ok : 
 
   recorded-is : recorded ≡ record-after r (seen x)
   unfolding record-after one-more
-  recorded-is = rw (act-step r x ok)
+  recorded-is = rw (act-step Keeping r x ok)
 
   inside : x .mark ≤ length (x .journal)
-  inside = omega (arith, step-room r x lent ok)
+  inside = omega (arith, step-room Keeping r x lent tt ok)
 
   pub step-frame : Framed x y × (y .mark ≡ x .mark + length recorded) × (take (length recorded) (drop (x .mark) (y .journal)) ≡ recorded)
   unfolding one-more
   step-frame =
       let b = record-after r (seen x) in
       let j = x .journal in
-      rw (recorded-is, act-step r x ok) (
+      rw (recorded-is, act-step Keeping r x ok) (
         record {
           grown = omega arith;
-          inside = step-room r x lent ok;
-          same-length = length-written j (x .mark) b (step-room r x lent ok);
+          inside = step-room Keeping r x lent tt ok;
+          same-length = length-written j (x .mark) b (step-room Keeping r x lent tt ok);
           below = written-below j (x .mark) b inside (x .mark) (omega arith);
           beyond = written-beyond j (x .mark) b inside;
         },
@@ -129,15 +131,20 @@ module _ (r : Request) (x : Machine) (lent : Lent (x .slots) (x .memory)) (ok : 
         written-at j (x .mark) b inside,
       )
 
-  kept-now : Kept (x .slots) (x .memory) (y .slots) (y .memory)
-  unfolding one-more
-  kept-now = rw (act-step r x ok) (kept-by (x .slots) (x .memory) (r .level) (r .vector) (step-valid (r .level) (r .vector) x lent ok))
+-- what it alters of memory, in either manner
+module _ (w : Manner) (r : Request) (x : Machine) (lent : Lent (x .slots) (x .memory)) (ok : stepping w (r .level) (r .vector) x .a .number ≡ 0) where
+  abbrev z : Machine
+  z = act w (step-of (r .level) (r .vector)) x
 
-  pub step-memory : (length (y .memory) ≡ length (x .memory))
-      × (length (diffs 0 (x .memory) (y .memory)) ≤ byte-limit)
-      × ((i : ℕ) → NotAmong i (diffs 0 (x .memory) (y .memory)) → getD (y .memory) i 0 ≡ getD (x .memory) i 0)
+  kept-now : Kept (x .slots) (x .memory) (z .slots) (z .memory)
+  unfolding one-more
+  kept-now = rw (act-step w r x ok) (kept-by (x .slots) (x .memory) (r .level) (r .vector) (step-valid w (r .level) (r .vector) x lent ok))
+
+  pub step-memory : (length (z .memory) ≡ length (x .memory))
+      × (length (diffs 0 (x .memory) (z .memory)) ≤ byte-limit)
+      × ((i : ℕ) → NotAmong i (diffs 0 (x .memory) (z .memory)) → getD (z .memory) i 0 ≡ getD (x .memory) i 0)
   step-memory =
-      (kept-now .memory, kept-now .few, λ i h. same-outside i 0 (x .memory) (y .memory) (sym (kept-now .memory)) (rw zero-add h))
+      (kept-now .memory, kept-now .few, λ i h. same-outside i 0 (x .memory) (z .memory) (sym (kept-now .memory)) (rw zero-add h))
 
 -- ---- an accepted undo
 pub undo-memory : (s m j : List ℕ) (mark : ℕ) (ss bs : List Change) (p : List ℕ) → well-formed s m j mark ≡ found ss bs p → (i : ℕ) → NotAmong i bs → getD (undo-call s m j mark .m) i 0 ≡ getD m i 0

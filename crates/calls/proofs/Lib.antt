@@ -5,9 +5,14 @@ pub mod FormedLaws
 pub mod StatusLaws
 pub mod PromiseLaws
 pub mod SlotsLaws
+pub mod JournalLaws
 pub mod ActLaws
 pub mod FrameLaws
 pub mod RunLaws
 pub mod ClockLaws
+pub mod BackLaws
+pub mod KeptLaws
+pub mod HoldLaws
 pub mod GoingBack
+pub mod GoingBackDropping
 pub mod HistoryLaws

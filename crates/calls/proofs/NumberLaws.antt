@@ -1,22 +1,25 @@
 -- NumberLaws.antt - the laws that the functions of this crate cite: a refusal given or passed over, the slots of a reset, undo's answer.
--- refuse, pass, refuse-not, pass-not; state-fits-is; reset-slots-is; undo-answer-done, undo-answer-refused.
+-- refuse, pass, refuse-not, pass-not; state-fits-is; no-room-dropping, no-room-keeping; reset-slots-is; undo-answer-done, undo-answer-refused.
 -- Uses: bits, bus, bank, record, undo, exception.
-use Prim.Native.Nat.{ℕ, _<_, _^_}
+use Prim.Native.Nat.{ℕ, _-_, _<_, _^_}
 use native.Mathlib.Omega.{arith}
 use mathlib.Core.Path.{_≡_, sym, ap, _∙_}
 use mathlib.Core.Bool.{Bool, true, false, _&&_, not}
 use mathlib.Core.List.{List, [], _∷_}
-use lib.Dec.{leb}
+use lib.ListN.{length}
+use lib.Dec.{ltb, leb}
 use Rattle.bits.specs.Bits.{pick}
 use Rattle.bus.specs.declared.Flow.{Flow}
 use Rattle.bus.specs.declared.Fetched.{Fetched}
 use Rattle.bus.specs.Bus.{view-of, read-long}
 use Rattle.bank.specs.Bank.{long, sr-of, mode-of}
 use Rattle.exception.specs.Exceptions.{fresh}
-use Rattle.record.specs.Limits.{valid-status}
+use Rattle.record.specs.Limits.{longest-record, valid-status}
 use Rattle.undo.specs.declared.Answer.{Answer}
 use Rattle.undo.specs.declared.Answer.the-variants.{Done, Refused}
-use Rattle.calls.specs.Calls.{state-fits, reset-slots, undo-answer}
+use Rattle.calls.specs.declared.Manner.{Manner}
+use Rattle.calls.specs.declared.Manner.the-variants.{Dropping, Keeping}
+use Rattle.calls.specs.Calls.{state-fits, reset-slots, no-room, undo-answer}
 
 -- a refusal is given, or passed over, by its test or by the contrary of its test
 module _ {A : Type 0} (b : Bool) (x y r : A) where
@@ -33,8 +36,24 @@ module _ {A : Type 0} (b c : Bool) (x y r : A) (d : c ≡ b) where
   pub pass-not : not c ≡ false → r ≡ y → r ≡ pick (not b) x y
   pass-not t e = let f : not b ≡ false = ap not (sym d) ∙ t in cc
 
+-- the same where the test was made by a function
+module _ {A : Type 0} (b c : Bool) (x y r : A) (d : c ≡ b) where
+  pub refuse-by : c ≡ true → r ≡ x → r ≡ pick b x y
+  refuse-by t e = cc
+
+  pub pass-by : c ≡ false → r ≡ y → r ≡ pick b x y
+  pass-by t e = cc
+
 pub state-fits-is : (s : List ℕ) (b : Bool) → b ≡ valid-status (sr-of s) → (b && leb (mode-of s) 2) ≡ state-fits s
 state-fits-is s b e = cc
+
+-- no room can be had
+module _ (w : Manner) (j : List ℕ) (mark : ℕ) where
+  pub no-room-dropping : w ≡ Dropping → ltb (length j) longest-record ≡ no-room w j mark
+  no-room-dropping e = rw e
+
+  pub no-room-keeping : w ≡ Keeping → ltb (length j - mark) longest-record ≡ no-room w j mark
+  no-room-keeping e = rw e
 
 -- the slots of a reset
 module _ (m : List ℕ) where

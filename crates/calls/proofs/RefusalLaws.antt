@@ -5,7 +5,7 @@
 -- * step-refused, run-refused, undo-refused: a call whose number is not 0 gives back slots, memory, journal and mark as given, and 0 for the rest.
 -- * reset-refused: a refused reset gives the fixed state.
 -- * step-accepted, run-accepted, undo-accepted: a call whose number is 0 is the step, the run, the undo of the definitions.
--- Source: [01 Calls and what they give back].
+-- Source: [01 Calls and what they give back], [K5].
 use Prim.Native.Nat.{ℕ, zero, suc, _+_, _-_, _%_, _≤_, _<_}
 use mathlib.Core.Path.{_≡_, refl, sym, ap, _∙_}
 use mathlib.Core.Logic.{_↔_}
@@ -14,19 +14,24 @@ use mathlib.Core.List.{List, [], _∷_}
 use native.Mathlib.Omega.{arith}
 use lib.ListN.{length}
 use lib.Dec.{ltb, leb, eqb}
-use borrow.Author.Tests.{ltb-true, ltb-false, leb-false, eqb-true, eqb-false, le-ltb, eq-eqb, ne-eqb, not-true, not-false}
+use borrow.Author.Tests.{ltb-true, ltb-false, leb-false, eqb-true, eqb-false, lt-ltb, le-ltb, eq-eqb, ne-eqb, not-true, not-false}
 use Rattle.bits.specs.Bits.{pick}
+use Rattle.bits.proofs.BitsLaws.{pick-cases, and-left, and-right}
 use Rattle.bank.specs.Bank.{pc-of, sr-of, mode-of}
 use Rattle.record.specs.Limits.{longest-record, valid-status}
 use Rattle.undo.specs.declared.Answer.{Answer}
 use Rattle.undo.specs.declared.Answer.the-variants.{Done, Refused}
 use Rattle.undo.specs.Undo.{Outcome, none, well-formed, undo-of}
 use Rattle.undo.proofs.UndoLaws.{undo-when-none, none-when-refused}
-use Rattle.calls.specs.Calls.{StepCall, RunCall, memory-fits, state-fits, reset-number, reset-call, refused-slots, step-number, step-taken}
-use Rattle.calls.specs.Calls.{step-call}
+use Rattle.oldest.specs.Room.{Way, rows, torn, rows-of}
+use Rattle.calls.specs.declared.Manner.{Manner}
+use Rattle.calls.specs.declared.Manner.the-variants.{Dropping, Keeping}
+use Rattle.calls.specs.Calls.{StepCall, RunCall, memory-fits, state-fits, reset-number, reset-call, refused-slots, no-room, is-torn, torn-way}
+use Rattle.calls.specs.Calls.{step-tests, step-number, step-taken, step-with-room, step-call}
 use Rattle.calls.specs.Calls.{run-number, running, run-call, undo-number, undo-answer, undo-call}
 use Rattle.calls.specs.Refusals.{Line, Given, zero-at-end, this, later, NoneApplies, BadMemory, odd, short, long, BadState, stray-bit}
-use Rattle.calls.specs.Refusals.{no-mode, memory-line, state-line, reset-table, step-table, run-table, undo-table}
+use Rattle.calls.specs.Refusals.{no-mode, memory-line, state-line, NoRoom, TornWay, when-dropping, reset-table, step-table, run-table}
+use Rattle.calls.specs.Refusals.{undo-table}
 use Rattle.calls.proofs.ValidLaws.{fits-inv, state-inv}
 
 -- ---- a table gives one number
@@ -153,69 +158,141 @@ call-number f n t r taken refused = go (eqb n 0) refl
     go true e = taken ∙ sym (eqb-true n 0 e)
     go false e = refused
 
+-- ---- room
+pub torn-way-when : (len : ℕ) (j : List ℕ) (mark : ℕ) → torn-way Dropping len j mark ≡ true → TornWay len j mark
+torn-way-when len j mark e =
+    let a = ltb (length j - mark) longest-record in
+    let b = is-torn (rows-of len j mark) in
+    (ltb-true (length j - mark) longest-record (and-left a b e), go (rows-of len j mark) (and-right a b e))
+  where
+    go : (q : Way) → is-torn q ≡ true → q ≡ torn
+    go torn f = refl
+    go (rows rs) f = absurd (let z : _≡_ {A = ℕ} 0 1 = cc in omega arith)
+
+pub no-torn-way : (len : ℕ) (j : List ℕ) (mark : ℕ) → torn-way Dropping len j mark ≡ false → TornWay len j mark → ⊥
+no-torn-way len j mark e t =
+    let no-way : true ≡ false = rw (lt-ltb (length j - mark) longest-record (t .0), t .1) at e in
+    let z : _≡_ {A = ℕ} 0 1 = cc in omega arith
+
+module _ {k : ℕ} {ls : List Line} (rest : Given ls k) (n : ℕ) where
+  room-given : (w : Manner) (j : List ℕ) (mark : ℕ) → Given (record { number = n; applies = NoRoom w j mark } ∷ ls) (pick (no-room w j mark) n k)
+  room-given Dropping j mark = below-given rest n (length j) longest-record
+  room-given Keeping j mark = below-given rest n (length j - mark) longest-record
+
+  way-given : (w : Manner) (len : ℕ) (j : List ℕ) (mark : ℕ) → Given (when-dropping w (record { number = n; applies = TornWay len j mark }) ls) (pick (torn-way w len j mark) n k)
+  way-given Keeping len j mark = rest
+  way-given Dropping len j mark = given-pick (torn-way Dropping len j mark) n (TornWay len j mark) (torn-way-when len j mark) (no-torn-way len j mark) rest
+
 -- ---- step
-module _ (s m : List ℕ) (level : ℕ) (j : List ℕ) (mark : ℕ) where
-  step-given : Given (step-table s m level j mark) (step-number s m level j mark)
-  unfolding step-number
+module _ (w : Manner) (s m : List ℕ) (level : ℕ) (j : List ℕ) (mark : ℕ) where
+  step-given : Given (step-table w s m level j mark) (step-number w s m level j mark)
+  unfolding step-number step-tests
   step-given =
-      let last = below-given (equal-given zero-at-end 6 (mode-of s) 2) 5 (length j - mark) longest-record in
+      let last = room-given (equal-given (way-given zero-at-end 8 w (length m) j mark) 6 (mode-of s) 2) 5 w j mark in
       memory-given (state-given (below-given (below-given last 4 (length j) mark) 3 7 level) s) m
 
   module _ (vector : ℕ) where
-    pub step-call-number : step-call s m level vector j mark .a .number ≡ step-number s m level j mark
-    unfolding step-call step-taken
-    step-call-number = call-number (λ (c : StepCall). c .a .number) (step-number s m level j mark) _ _ refl refl
+    pub step-call-number : step-call w s m level vector j mark .a .number ≡ step-number w s m level j mark
+    unfolding step-call step-with-room step-taken
+    step-call-number = call-number (λ (c : StepCall). c .a .number) (step-number w s m level j mark) _ _ refl refl
 
-    pub step-verdict : Verdict (step-table s m level j mark) (step-call s m level vector j mark .a .number)
-    step-verdict = verdict (step-table s m level j mark) (step-call s m level vector j mark .a .number) (omega arith) (rw step-call-number step-given)
+    pub step-verdict : Verdict (step-table w s m level j mark) (step-call w s m level vector j mark .a .number)
+    step-verdict = verdict (step-table w s m level j mark) (step-call w s m level vector j mark .a .number) (step-rising w) (rw step-call-number step-given)
+      where
+        step-rising : (w : Manner) → Rising 0 (step-table w s m level j mark)
+        step-rising Dropping = omega arith
+        step-rising Keeping = omega arith
 
-    pub step-accepted : step-call s m level vector j mark .a .number ≡ 0 → step-call s m level vector j mark ≡ step-taken s m level vector j mark
+    pub step-accepted : step-call w s m level vector j mark .a .number ≡ 0 → step-call w s m level vector j mark ≡ step-with-room w s m level vector j mark
     unfolding step-call
-    step-accepted e = rw (eq-eqb (step-number s m level j mark) 0 (sym step-call-number ∙ e))
+    step-accepted e = rw (eq-eqb (step-number w s m level j mark) 0 (sym step-call-number ∙ e))
 
-    pub step-refused : (step-call s m level vector j mark .a .number ≡ 0 → ⊥)
-        → step-call s m level vector j mark ≡ record { s = s; m = m; j = j; a = record { number = step-call s m level vector j mark .a .number; event = 0; mark = mark; clocks = 0 } }
+    pub step-refused : (step-call w s m level vector j mark .a .number ≡ 0 → ⊥)
+        → step-call w s m level vector j mark ≡ record { s = s; m = m; j = j; a = record { number = step-call w s m level vector j mark .a .number; event = 0; mark = mark; clocks = 0; moved = 0; dropped = 0 } }
     unfolding step-call
-    step-refused h = rw (ne-eqb (step-number s m level j mark) 0 (λ e. h (step-call-number ∙ e)))
+    step-refused h = rw (ne-eqb (step-number w s m level j mark) 0 (λ e. h (step-call-number ∙ e)))
 
-  -- what an accepted step may rest on
-  pub step-inv : step-number s m level j mark ≡ 0
-      → (memory-fits m ≡ true) × (state-fits s ≡ true) × (level ≤ 7) × (mark ≤ length j) × (longest-record ≤ length j - mark) × (mode-of s ≡ 2 → ⊥)
-  unfolding step-number
-  step-inv e =
+  -- the tests are passed, whatever is last, or one of them gives a number
+  data Tested : Type 0 where
+    passed : ((last : ℕ) → step-tests w s m level j mark last ≡ last) → Tested
+    stopped : (n : ℕ) → (n ≡ 0 → ⊥) → ((last : ℕ) → step-tests w s m level j mark last ≡ n) → Tested
+
+  tested : Tested
+  unfolding step-tests
+  tested = go (memory-fits m) refl (state-fits s) refl (ltb 7 level) refl (ltb (length j) mark) refl (no-room w j mark) refl (eqb (mode-of s) 2) refl
+    where
+      go : (a : Bool) → memory-fits m ≡ a → (b : Bool) → state-fits s ≡ b → (c : Bool) → ltb 7 level ≡ c → (d : Bool) → ltb (length j) mark ≡ d
+          → (f : Bool) → no-room w j mark ≡ f → (g : Bool) → eqb (mode-of s) 2 ≡ g → Tested
+      go false e₁ b e₂ c e₃ d e₄ f e₅ g e₆ = stopped 1 (λ q. omega arith) (λ last. rw e₁)
+      go true e₁ false e₂ c e₃ d e₄ f e₅ g e₆ = stopped 2 (λ q. omega arith) (λ last. rw (e₁, e₂))
+      go true e₁ true e₂ true e₃ d e₄ f e₅ g e₆ = stopped 3 (λ q. omega arith) (λ last. rw (e₁, e₂, e₃))
+      go true e₁ true e₂ false e₃ true e₄ f e₅ g e₆ = stopped 4 (λ q. omega arith) (λ last. rw (e₁, e₂, e₃, e₄))
+      go true e₁ true e₂ false e₃ false e₄ true e₅ g e₆ = stopped 5 (λ q. omega arith) (λ last. rw (e₁, e₂, e₃, e₄, e₅))
+      go true e₁ true e₂ false e₃ false e₄ false e₅ true e₆ = stopped 6 (λ q. omega arith) (λ last. rw (e₁, e₂, e₃, e₄, e₅, e₆))
+      go true e₁ true e₂ false e₃ false e₄ false e₅ false e₆ = passed (λ last. rw (e₁, e₂, e₃, e₄, e₅, e₆))
+
+  -- so the tests alone tell whether what is last is asked
+  pub tests-passed : (last : ℕ) → step-tests w s m level j mark 0 ≡ 0 → step-tests w s m level j mark last ≡ last
+  tests-passed last e = go tested
+    where
+      go : Tested → step-tests w s m level j mark last ≡ last
+      go (passed f) = f last
+      go (stopped n z f) = absurd (z (sym (f 0) ∙ e))
+
+  pub tests-stopped : (last : ℕ) → (step-tests w s m level j mark 0 ≡ 0 → ⊥) → step-tests w s m level j mark last ≡ step-tests w s m level j mark 0
+  tests-stopped last h = go tested
+    where
+      go : Tested → step-tests w s m level j mark last ≡ step-tests w s m level j mark 0
+      go (passed f) = absurd (h (f 0))
+      go (stopped n z f) = f last ∙ sym (f 0)
+
+  -- what a step that passes the tests may rest on
+  pub tests-inv : (last : ℕ) → step-tests w s m level j mark last ≡ 0
+      → (memory-fits m ≡ true) × (state-fits s ≡ true) × (level ≤ 7) × (mark ≤ length j) × (no-room w j mark ≡ false) × (mode-of s ≡ 2 → ⊥) × (last ≡ 0)
+  unfolding step-tests
+  tests-inv last e =
       let e₁ = pick-zero (not (memory-fits m)) 0 _ e in
       let e₂ = pick-zero (not (state-fits s)) 1 _ (e₁ .1) in
       let e₃ = pick-zero (ltb 7 level) 2 _ (e₂ .1) in
       let e₄ = pick-zero (ltb (length j) mark) 3 _ (e₃ .1) in
-      let e₅ = pick-zero (ltb (length j - mark) longest-record) 4 _ (e₄ .1) in
+      let e₅ = pick-zero (no-room w j mark) 4 _ (e₄ .1) in
       let e₆ = pick-zero (eqb (mode-of s) 2) 5 _ (e₅ .1) in (
         not-false (memory-fits m) (e₁ .0),
         not-false (state-fits s) (e₂ .0),
         ltb-false 7 level (e₃ .0),
         ltb-false (length j) mark (e₄ .0),
-        ltb-false (length j - mark) longest-record (e₅ .0),
+        e₅ .0,
         eqb-false (mode-of s) 2 (e₆ .0),
+        e₆ .1,
       )
 
-  pub step-number-when : memory-fits m ≡ true → state-fits s ≡ true → level ≤ 7 → mark ≤ length j → longest-record ≤ length j - mark → (mode-of s ≡ 2 → ⊥) → step-number s m level j mark ≡ 0
+  -- what an accepted step may rest on
+  pub step-inv : step-number w s m level j mark ≡ 0
+      → (memory-fits m ≡ true) × (state-fits s ≡ true) × (level ≤ 7) × (mark ≤ length j) × (no-room w j mark ≡ false) × (mode-of s ≡ 2 → ⊥) × (torn-way w (length m) j mark ≡ false)
   unfolding step-number
-  step-number-when f g h i k r =
-      rw (f, g, le-ltb 7 level h, le-ltb (length j) mark i, le-ltb (length j - mark) longest-record k, ne-eqb (mode-of s) 2 r)
+  step-inv e =
+      let i = tests-inv (pick (torn-way w (length m) j mark) 8 0) e in
+      (i .0, i .1, i .2, i .3, i .4, i .5, pick-zero (torn-way w (length m) j mark) 7 0 (i .6) .0)
+
+  pub step-number-when : memory-fits m ≡ true → state-fits s ≡ true → level ≤ 7 → mark ≤ length j → no-room w j mark ≡ false → (mode-of s ≡ 2 → ⊥) → torn-way w (length m) j mark ≡ false
+      → step-number w s m level j mark ≡ 0
+  unfolding step-number step-tests
+  step-number-when f g h i k r t =
+      rw (f, g, le-ltb 7 level h, le-ltb (length j) mark i, k, ne-eqb (mode-of s) 2 r, t)
 
 -- ---- run
-running-number : (k n c stop : ℕ) (s m j : List ℕ) (mark : ℕ) → running k n c stop s m j mark .a .number ≡ 0
+abbrev NoNumber : RunCall → Type 0
+NoNumber c = c .a .number ≡ 0
+
+running-number : (w : Manner) (k n c v u stop : ℕ) (s m j : List ℕ) (mark : ℕ) → running w k n c v u stop s m j mark .a .number ≡ 0
 unfolding running
-running-number zero n c stop s m j mark = refl
-running-number (suc k) n c stop s m j mark = go (eqb (mode-of s) 2) refl (eqb (mode-of s) 1) refl (ltb (length j - mark) longest-record) refl (eqb (pc-of s) stop) refl (λ c s m j mark. running-number k (n + 1) c stop s m j mark)
-  where
-    go : (a : Bool) → eqb (mode-of s) 2 ≡ a → (b : Bool) → eqb (mode-of s) 1 ≡ b → (u : Bool) → ltb (length j - mark) longest-record ≡ u → (d : Bool) → eqb (pc-of s) stop ≡ d
-        → ((c : ℕ) (s m j : List ℕ) (mark : ℕ) → running k (n + 1) c stop s m j mark .a .number ≡ 0)
-        → running (suc k) n c stop s m j mark .a .number ≡ 0
-    go true e b f u g d h r = rw e
-    go false e true f u g d h r = rw (e, f)
-    go false e false f true g d h r = rw (e, f, g)
-    go false e false f false g true h r = rw (e, f, g, h)
-    go false e false f false g false h r = rw (e, f, g, h) (r _ _ _ _ _)
+running-number w zero n c v u stop s m j mark = refl
+running-number w (suc k) n c v u stop s m j mark =
+    pick-cases NoNumber (eqb (mode-of s) 2) refl
+    (pick-cases NoNumber (eqb (mode-of s) 1) refl
+    (pick-cases NoNumber (no-room w j mark) refl
+    (pick-cases NoNumber (torn-way w (length m) j mark) refl
+    (pick-cases NoNumber (eqb (pc-of s) stop) refl (running-number w k (n + 1) _ _ _ stop _ _ _ _)))))
 
 module _ (s m : List ℕ) (budget : ℕ) (j : List ℕ) (mark : ℕ) where
   run-given : Given (run-table s m budget j mark) (run-number s m budget j mark)
@@ -231,20 +308,20 @@ module _ (s m : List ℕ) (budget : ℕ) (j : List ℕ) (mark : ℕ) where
       let e₄ = pick-zero (ltb (length j) mark) 3 _ (e₃ .1) in
       (not-false (memory-fits m) (e₁ .0), not-false (state-fits s) (e₂ .0), ltb-false 1000000 budget (e₃ .0), ltb-false (length j) mark (e₄ .0))
 
-  module _ (stop : ℕ) where
-    pub run-call-number : run-call s m budget stop j mark .a .number ≡ run-number s m budget j mark
+  module _ (w : Manner) (stop : ℕ) where
+    pub run-call-number : run-call w s m budget stop j mark .a .number ≡ run-number s m budget j mark
     unfolding run-call
-    run-call-number = call-number (λ (c : RunCall). c .a .number) (run-number s m budget j mark) _ _ (running-number budget 0 0 stop s m j mark) refl
+    run-call-number = call-number (λ (c : RunCall). c .a .number) (run-number s m budget j mark) _ _ (running-number w budget 0 0 0 0 stop s m j mark) refl
 
-    pub run-verdict : Verdict (run-table s m budget j mark) (run-call s m budget stop j mark .a .number)
-    run-verdict = verdict (run-table s m budget j mark) (run-call s m budget stop j mark .a .number) (omega arith) (rw run-call-number run-given)
+    pub run-verdict : Verdict (run-table s m budget j mark) (run-call w s m budget stop j mark .a .number)
+    run-verdict = verdict (run-table s m budget j mark) (run-call w s m budget stop j mark .a .number) (omega arith) (rw run-call-number run-given)
 
-    pub run-accepted : run-call s m budget stop j mark .a .number ≡ 0 → run-call s m budget stop j mark ≡ running budget 0 0 stop s m j mark
+    pub run-accepted : run-call w s m budget stop j mark .a .number ≡ 0 → run-call w s m budget stop j mark ≡ running w budget 0 0 0 0 stop s m j mark
     unfolding run-call
     run-accepted e = rw (eq-eqb (run-number s m budget j mark) 0 (sym run-call-number ∙ e))
 
-    pub run-refused : (run-call s m budget stop j mark .a .number ≡ 0 → ⊥)
-        → run-call s m budget stop j mark ≡ record { s = s; m = m; j = j; a = record { number = run-call s m budget stop j mark .a .number; reason = 0; mark = mark; steps = 0; clocks = 0 } }
+    pub run-refused : (run-call w s m budget stop j mark .a .number ≡ 0 → ⊥)
+        → run-call w s m budget stop j mark ≡ record { s = s; m = m; j = j; a = record { number = run-call w s m budget stop j mark .a .number; reason = 0; mark = mark; steps = 0; clocks = 0; moved = 0; dropped = 0 } }
     unfolding run-call
     run-refused h = rw (ne-eqb (run-number s m budget j mark) 0 (λ e. h (run-call-number ∙ e)))
 

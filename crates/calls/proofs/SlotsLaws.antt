@@ -1,26 +1,27 @@
 -- SlotsLaws.antt - twenty slots stay twenty in every call, whatever they hold and whatever it is lent.
 -- * twenty-of-act: the law, for a step, a run and an undo.
 -- Source: [01 State], [01 Calls and what they give back].
-use Prim.Native.Nat.{ℕ, zero, suc, _+_, _-_}
+use Prim.Native.Nat.{ℕ, zero, suc, _+_}
 use mathlib.Core.Path.{_≡_, refl, _∙_}
 use mathlib.Core.List.{List}
 use lib.ListN.{length}
-use lib.Dec.{ltb, eqb}
+use lib.Dec.{eqb}
 use Rattle.bits.proofs.BitsLaws.{pick-cases}
 use Rattle.bank.specs.Bank.{pc-of, mode-of}
-use Rattle.record.specs.Limits.{slot-limit, longest-record}
+use Rattle.record.specs.Limits.{slot-limit}
 use Rattle.record.proofs.KeptLaws.{length-restore}
 use Rattle.step.proofs.SlotsLaws.{twenty-of-one-step}
 use Rattle.undo.specs.Undo.{Record, found, none, well-formed, undo-of}
-use Rattle.calls.specs.Calls.{StepCall, RunCall, UndoCall, step-number, step-taken, step-call, run-number, running, run-call, undo-number}
-use Rattle.calls.specs.Calls.{undo-call}
+use Rattle.calls.specs.declared.Manner.{Manner}
+use Rattle.calls.specs.Calls.{StepCall, RunCall, UndoCall, no-room, torn-way, step-number, step-taken, step-with-room, step-call}
+use Rattle.calls.specs.Calls.{run-number, running, run-call, undo-number, undo-call}
 use Rattle.calls.specs.History.{Machine, Call, step-of, run-of, undo-once, act}
 
 module _ (s m : List ℕ) (h : length s ≡ slot-limit) where
-  twenty-of-step : (level vector : ℕ) (j : List ℕ) (mark : ℕ) → length (step-call s m level vector j mark .s) ≡ slot-limit
-  unfolding step-call step-taken
-  twenty-of-step level vector j mark =
-      pick-cases (λ (c : StepCall). length (c .s) ≡ slot-limit) (eqb (step-number s m level j mark) 0) (twenty-of-one-step s m h level vector) h
+  twenty-of-step : (w : Manner) (level vector : ℕ) (j : List ℕ) (mark : ℕ) → length (step-call w s m level vector j mark .s) ≡ slot-limit
+  unfolding step-call step-with-room step-taken
+  twenty-of-step w level vector j mark =
+      pick-cases (λ (c : StepCall). length (c .s) ≡ slot-limit) (eqb (step-number w s m level j mark) 0) (twenty-of-one-step s m h level vector) h
 
   twenty-of-undo : (j : List ℕ) (mark : ℕ) → length (undo-call s m j mark .s) ≡ slot-limit
   unfolding undo-call undo-of
@@ -34,25 +35,25 @@ module _ (s m : List ℕ) (h : length s ≡ slot-limit) where
 abbrev TwentyRun : RunCall → Type 0
 TwentyRun c = length (c .s) ≡ slot-limit
 
-twenty-of-running : (k n c stop : ℕ) (s m j : List ℕ) (mark : ℕ) → length s ≡ slot-limit → length (running k n c stop s m j mark .s) ≡ slot-limit
-unfolding running step-taken
-twenty-of-running zero n c stop s m j mark h = h
-twenty-of-running (suc k) n c stop s m j mark h =
-    let t = step-taken s m 0 0 j mark in
-    let rest = twenty-of-running k (n + 1) (c + t .a .clocks) stop (t .s) (t .m) (t .j) (t .a .mark) (twenty-of-one-step s m h 0 0) in
+twenty-of-running : (w : Manner) (k n c v u stop : ℕ) (s m j : List ℕ) (mark : ℕ) → length s ≡ slot-limit
+    → length (running w k n c v u stop s m j mark .s) ≡ slot-limit
+unfolding running step-with-room step-taken
+twenty-of-running w zero n c v u stop s m j mark h = h
+twenty-of-running w (suc k) n c v u stop s m j mark h =
     pick-cases TwentyRun (eqb (mode-of s) 2) h
     (pick-cases TwentyRun (eqb (mode-of s) 1) h
-    (pick-cases TwentyRun (ltb (length j - mark) longest-record) h
-    (pick-cases TwentyRun (eqb (pc-of s) stop) h rest)))
+    (pick-cases TwentyRun (no-room w j mark) h
+    (pick-cases TwentyRun (torn-way w (length m) j mark) h
+    (pick-cases TwentyRun (eqb (pc-of s) stop) h (twenty-of-running w k (n + 1) _ _ _ stop _ _ _ _ (twenty-of-one-step s m h 0 0))))))
 
-twenty-of-run : (s m : List ℕ) (budget stop : ℕ) (j : List ℕ) (mark : ℕ) → length s ≡ slot-limit
-    → length (run-call s m budget stop j mark .s) ≡ slot-limit
+twenty-of-run : (w : Manner) (s m : List ℕ) (budget stop : ℕ) (j : List ℕ) (mark : ℕ) → length s ≡ slot-limit
+    → length (run-call w s m budget stop j mark .s) ≡ slot-limit
 unfolding run-call
-twenty-of-run s m budget stop j mark h =
-    pick-cases TwentyRun (eqb (run-number s m budget j mark) 0) (twenty-of-running budget 0 0 stop s m j mark h) h
+twenty-of-run w s m budget stop j mark h =
+    pick-cases TwentyRun (eqb (run-number s m budget j mark) 0) (twenty-of-running w budget 0 0 0 0 stop s m j mark h) h
 
-pub twenty-of-act : (c : Call) (x : Machine) → length (x .slots) ≡ slot-limit → length (act c x .slots) ≡ slot-limit
+pub twenty-of-act : (w : Manner) (c : Call) (x : Machine) → length (x .slots) ≡ slot-limit → length (act w c x .slots) ≡ slot-limit
 unfolding act
-twenty-of-act (step-of level vector) x h = twenty-of-step (x .slots) (x .memory) h level vector (x .journal) (x .mark)
-twenty-of-act (run-of budget stop) x h = twenty-of-run (x .slots) (x .memory) budget stop (x .journal) (x .mark) h
-twenty-of-act undo-once x h = twenty-of-undo (x .slots) (x .memory) h (x .journal) (x .mark)
+twenty-of-act w (step-of level vector) x h = twenty-of-step (x .slots) (x .memory) h w level vector (x .journal) (x .mark)
+twenty-of-act w (run-of budget stop) x h = twenty-of-run w (x .slots) (x .memory) budget stop (x .journal) (x .mark) h
+twenty-of-act w undo-once x h = twenty-of-undo (x .slots) (x .memory) h (x .journal) (x .mark)

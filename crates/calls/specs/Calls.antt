@@ -1,8 +1,9 @@
 -- Calls.antt - reset, step, run and undo: the complete answer of each call, and slots, memory and journal afterwards, for every input.
 -- A refusal's number is the lowest that the call can give; a refused call leaves everything as it was (a refused reset: the fixed state).
--- Laws: proofs/.  Source: [01 Calls and what they give back], [01 The journal], [K2].
+-- Step and run go by a manner: where the journal is full, Dropping drops its oldest records, and Keeping takes no step.
+-- Laws: proofs/.  Source: [01 Calls and what they give back], [01 The journal], [K2], [K5].
 use Prim.Native.Nat.{ℕ, zero, suc, _+_, _-_, _%_}
-use mathlib.Core.Bool.{Bool, _&&_, not}
+use mathlib.Core.Bool.{Bool, true, false, _&&_, not}
 use mathlib.Core.List.{List, [], _∷_}
 use lib.ListN.{length}
 use lib.Dec.{ltb, leb, eqb}
@@ -18,6 +19,10 @@ use Rattle.record.specs.Change.{step-record}
 use Rattle.undo.specs.declared.Answer.{Answer}
 use Rattle.undo.specs.declared.Answer.the-variants.{Done, Refused}
 use Rattle.undo.specs.Undo.{undo-of}
+use Rattle.oldest.specs.declared.Room.{Room}
+use Rattle.oldest.specs.Room.{Way, rows, torn, rows-of, RoomCall, as-it-was, make-room, capped}
+use Rattle.calls.specs.declared.Manner.{Manner}
+use Rattle.calls.specs.declared.Manner.the-variants.{Dropping, Keeping}
 use Rattle.calls.specs.declared.StepAnswer.{StepAnswer}
 use Rattle.calls.specs.declared.RunAnswer.{RunAnswer}
 use Rattle.calls.specs.declared.UndoAnswer.{UndoAnswer}
@@ -50,6 +55,29 @@ reset-number m = pick (memory-fits m) 0 1
 unfoldable pub reset-call : List ℕ → List ℕ
 reset-call m = pick (memory-fits m) (reset-slots m) refused-slots
 
+-- ---- room for one more record, in either manner
+
+-- no room can be had. Dropping: the journal is shorter than the longest record altogether. Keeping: fewer bytes than that are free.
+-- [K5] [01 Calls, table]
+abbrev pub no-room : Manner → List ℕ → ℕ → Bool
+no-room Dropping j mark = ltb (length j) longest-record
+no-room Keeping j mark = ltb (length j - mark) longest-record
+
+-- whether a record on the way back is not well shaped  [K5]
+abbrev pub is-torn : Way → Bool
+is-torn (rows rs) = false
+is-torn torn = true
+
+-- whether records must be dropped and one of them is not well shaped; a journal with room enough is not judged  [K5]
+abbrev pub torn-way : Manner → ℕ → List ℕ → ℕ → Bool
+torn-way Dropping len j mark = ltb (length j - mark) longest-record && is-torn (rows-of len j mark)
+torn-way Keeping len j mark = false
+
+-- the journal and the mark with room for one more record  [K5] [01 Calls]
+abbrev pub room-for : Manner → ℕ → List ℕ → ℕ → RoomCall
+room-for Dropping len j mark = make-room len j mark
+room-for Keeping len j mark = as-it-was 0 j mark
+
 -- ---- step
 
 -- slots, memory and journal after a step, and its answer  [ours]
@@ -59,30 +87,47 @@ pub record StepCall : Type 0 where
   pub j : List ℕ
   pub a : StepAnswer
 
--- 1 to 6, or 0  [01 Calls, table]
-unfoldable pub step-number : List ℕ → List ℕ → ℕ → List ℕ → ℕ → ℕ
-step-number s m level j mark =
+-- 1 to 6, or else what is last  [01 Calls, table] [K5]
+unfoldable pub step-tests : Manner → List ℕ → List ℕ → ℕ → List ℕ → ℕ → ℕ → ℕ
+step-tests w s m level j mark last =
     pick (not (memory-fits m)) 1
     (pick (not (state-fits s)) 2
     (pick (ltb TopLevel level) 3
     (pick (ltb (length j) mark) 4
-    (pick (ltb (length j - mark) longest-record) 5
-    (pick (eqb (mode-of s) Halted) 6 0)))))
+    (pick (no-room w j mark) 5
+    (pick (eqb (mode-of s) Halted) 6 last)))))
+
+-- 1 to 6, 8 where a record on the way back is not well shaped, or 0  [01 Calls, table] [K5]
+unfoldable pub step-number : Manner → List ℕ → List ℕ → ℕ → List ℕ → ℕ → ℕ
+step-number w s m level j mark = step-tests w s m level j mark (pick (torn-way w (length m) j mark) 8 0)
 
 -- one step by the definition, the record that before and after determine, at the mark, and its clocks  [01 One step] [01 The journal] [K2]
 unfoldable pub step-taken : List ℕ → List ℕ → ℕ → ℕ → List ℕ → ℕ → StepCall
 step-taken s m level vector j mark =
     let t = one-step s m level vector in
     let b = step-record s (t .s) m (t .m) in
-    let answer : StepAnswer = record { number = 0; event = t .event; mark = mark + length b; clocks = step-clocks s m level vector } in
+    let answer : StepAnswer = record { number = 0; event = t .event; mark = mark + length b; clocks = step-clocks s m level vector; moved = 0; dropped = 0 } in
     record { s = t .s; m = t .m; j = written j mark b; a = answer }
 
--- a step, or its refusal, which alters nothing and takes no clocks  [01 Calls] [01 Calls, table] [K2]
-unfoldable pub step-call : List ℕ → List ℕ → ℕ → ℕ → List ℕ → ℕ → StepCall
-step-call s m level vector j mark =
-    let n = step-number s m level j mark in
-    let refusal : StepAnswer = record { number = n; event = NoEvent; mark = mark; clocks = 0 } in
-    pick (eqb n 0) (step-taken s m level vector j mark) (record { s = s; m = m; j = j; a = refusal })
+-- the same, with what making room moved and dropped  [K5]
+abbrev pub in-room : Room → StepCall → StepCall
+in-room r t =
+    let a = t .a in
+    let answer : StepAnswer = record { number = a .number; event = a .event; mark = a .mark; clocks = a .clocks; moved = r .moved; dropped = r .dropped } in
+    record { s = t .s; m = t .m; j = t .j; a = answer }
+
+-- a step where there is room, or where room can be made: the room first, then the step's own record  [01 Calls] [K5]
+unfoldable pub step-with-room : Manner → List ℕ → List ℕ → ℕ → ℕ → List ℕ → ℕ → StepCall
+step-with-room w s m level vector j mark =
+    let r = room-for w (length m) j mark in
+    in-room (r .a) (step-taken s m level vector (r .j) (r .a .mark))
+
+-- a step, or its refusal, which alters nothing, takes no clocks and moves and drops nothing  [01 Calls] [01 Calls, table] [K2] [K5]
+unfoldable pub step-call : Manner → List ℕ → List ℕ → ℕ → ℕ → List ℕ → ℕ → StepCall
+step-call w s m level vector j mark =
+    let n = step-number w s m level j mark in
+    let refusal : StepAnswer = record { number = n; event = NoEvent; mark = mark; clocks = 0; moved = 0; dropped = 0 } in
+    pick (eqb n 0) (step-with-room w s m level vector j mark) (record { s = s; m = m; j = j; a = refusal })
 
 -- ---- run
 
@@ -93,7 +138,7 @@ pub record RunCall : Type 0 where
   pub j : List ℕ
   pub a : RunAnswer
 
--- 1 to 4, or 0  [01 Calls, table]
+-- 1 to 4, or 0, in either manner  [01 Calls, table]
 unfoldable pub run-number : List ℕ → List ℕ → ℕ → List ℕ → ℕ → ℕ
 run-number s m budget j mark =
     pick (not (memory-fits m)) 1
@@ -101,28 +146,30 @@ run-number s m budget j mark =
     (pick (ltb MostSteps budget) 3
     (pick (ltb (length j) mark) 4 0)))
 
--- a run ended by a reason, with n steps of c clocks done  [01 Calls, Run] [K2]
-abbrev pub ended : ℕ → ℕ → ℕ → List ℕ → List ℕ → List ℕ → ℕ → RunCall
-ended reason n c s m j mark = record { s = s; m = m; j = j; a = record { number = 0; reason = reason; mark = mark; steps = n; clocks = c } }
+-- a run ended by a reason, with n steps of c clocks done, v bytes moved and u records dropped  [01 Calls, Run] [K2] [K5]
+abbrev pub ended : ℕ → ℕ → ℕ → ℕ → ℕ → List ℕ → List ℕ → List ℕ → ℕ → RunCall
+ended reason n c v u s m j mark =
+    record { s = s; m = m; j = j; a = record { number = 0; reason = reason; mark = mark; steps = n; clocks = c; moved = capped v; dropped = u } }
 
--- what is left of a run, k of its budget, with n steps of c clocks done: the reasons in their order, and a step with level 0, whose
--- clocks are added  [01 Calls, Run] [K2]
-unfoldable pub running : ℕ → ℕ → ℕ → ℕ → List ℕ → List ℕ → List ℕ → ℕ → RunCall
-running zero n c stop s m j mark = ended 1 n c s m j mark
-running (suc k) n c stop s m j mark =
-    let t = step-taken s m 0 0 j mark in
-    let rest = running k (n + 1) (c + t .a .clocks) stop (t .s) (t .m) (t .j) (t .a .mark) in
-    pick (eqb (mode-of s) Halted) (ended 2 n c s m j mark)
-    (pick (eqb (mode-of s) Stopped) (ended 3 n c s m j mark)
-    (pick (ltb (length j - mark) longest-record) (ended 4 n c s m j mark)
-    (pick (eqb (pc-of s) stop) (ended 5 n c s m j mark) rest)))
+-- what is left of a run, k of its budget, with n steps of c clocks done, v bytes moved and u records dropped: the reasons in their order,
+-- and a step with level 0, whose clocks, bytes and records are added  [01 Calls, Run] [K2] [K5]
+unfoldable pub running : Manner → ℕ → ℕ → ℕ → ℕ → ℕ → ℕ → List ℕ → List ℕ → List ℕ → ℕ → RunCall
+running w zero n c v u stop s m j mark = ended 1 n c v u s m j mark
+running w (suc k) n c v u stop s m j mark =
+    let t = step-with-room w s m 0 0 j mark in
+    let rest = running w k (n + 1) (c + t .a .clocks) (v + t .a .moved) (u + t .a .dropped) stop (t .s) (t .m) (t .j) (t .a .mark) in
+    pick (eqb (mode-of s) Halted) (ended 2 n c v u s m j mark)
+    (pick (eqb (mode-of s) Stopped) (ended 3 n c v u s m j mark)
+    (pick (no-room w j mark) (ended 4 n c v u s m j mark)
+    (pick (torn-way w (length m) j mark) (ended 6 n c v u s m j mark)
+    (pick (eqb (pc-of s) stop) (ended 5 n c v u s m j mark) rest))))
 
--- a run, or its refusal, which alters nothing and takes no clocks  [01 Calls, Run] [01 Calls, table] [K2]
-unfoldable pub run-call : List ℕ → List ℕ → ℕ → ℕ → List ℕ → ℕ → RunCall
-run-call s m budget stop j mark =
+-- a run, or its refusal, which alters nothing, takes no clocks and moves and drops nothing  [01 Calls, Run] [01 Calls, table] [K2] [K5]
+unfoldable pub run-call : Manner → List ℕ → List ℕ → ℕ → ℕ → List ℕ → ℕ → RunCall
+run-call w s m budget stop j mark =
     let n = run-number s m budget j mark in
-    let refusal : RunAnswer = record { number = n; reason = 0; mark = mark; steps = 0; clocks = 0 } in
-    pick (eqb n 0) (running budget 0 0 stop s m j mark) (record { s = s; m = m; j = j; a = refusal })
+    let refusal : RunAnswer = record { number = n; reason = 0; mark = mark; steps = 0; clocks = 0; moved = 0; dropped = 0 } in
+    pick (eqb n 0) (running w budget 0 0 0 0 stop s m j mark) (record { s = s; m = m; j = j; a = refusal })
 
 -- ---- undo
 

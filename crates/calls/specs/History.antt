@@ -1,6 +1,6 @@
 -- History.antt - a mix of calls, each given what the last one returned; the steps that stand after it; those steps taken alone.
 -- Not here: what a call does (Calls.antt), what a step does (one-step of the crate step).
--- Laws: proofs/GoingBack.antt, proofs/ClockLaws.antt.  Source: [00 demand 3], [K2].
+-- Laws: proofs/GoingBack.antt, proofs/ClockLaws.antt.  Source: [00 demand 3], [K2], [K5].
 use Prim.Native.Nat.{ℕ, zero, suc, _+_, _≤_}
 use mathlib.Core.List.{List, [], _∷_}
 use lib.ListN.{length}
@@ -8,6 +8,7 @@ use lib.Dec.{eqb}
 use Rattle.bits.specs.Bits.{pick, iter}
 use Rattle.step.specs.Steps.{one-step, step-clocks}
 use Rattle.record.specs.Change.{step-record}
+use Rattle.calls.specs.declared.Manner.{Manner}
 use Rattle.calls.specs.Calls.{StepCall, RunCall, UndoCall, step-call, run-call, undo-call}
 
 -- what the calls are lent, and the mark  [01 Calls]
@@ -30,41 +31,42 @@ pub data Call : Type 0 where
 
 -- ---- what each call gives back on a machine
 
--- a step of a machine  [01 Calls]
-abbrev pub stepping : ℕ → ℕ → Machine → StepCall
-stepping level vector x = step-call (x .slots) (x .memory) level vector (x .journal) (x .mark)
-
--- a run of a machine  [01 Calls, Run]
-abbrev pub running-on : ℕ → ℕ → Machine → RunCall
-running-on budget stop x = run-call (x .slots) (x .memory) budget stop (x .journal) (x .mark)
-
 -- an undo of a machine  [01 Calls]
 abbrev pub undoing : Machine → UndoCall
 undoing x = undo-call (x .slots) (x .memory) (x .journal) (x .mark)
 
--- the machine after a call: what the next call is given  [00 demand 3]
-unfoldable pub act : Call → Machine → Machine
-act (step-of level vector) x =
-    let c = stepping level vector x in
-    record { slots = c .s; memory = c .m; journal = c .j; mark = c .a .mark }
-act (run-of budget stop) x =
-    let c = running-on budget stop x in
-    record { slots = c .s; memory = c .m; journal = c .j; mark = c .a .mark }
-act undo-once x =
-    let c = undoing x in
-    record { slots = c .s; memory = c .m; journal = x .journal; mark = c .a .mark }
+module _ (w : Manner) where
+  -- a step of a machine  [01 Calls]
+  abbrev pub stepping : ℕ → ℕ → Machine → StepCall
+  stepping level vector x = step-call w (x .slots) (x .memory) level vector (x .journal) (x .mark)
 
--- the number of a call's answer  [01 Calls]
-abbrev pub number-told : Call → Machine → ℕ
-number-told (step-of level vector) x = stepping level vector x .a .number
-number-told (run-of budget stop) x = running-on budget stop x .a .number
-number-told undo-once x = undoing x .a .number
+  -- a run of a machine  [01 Calls, Run]
+  abbrev pub running-on : ℕ → ℕ → Machine → RunCall
+  running-on budget stop x = run-call w (x .slots) (x .memory) budget stop (x .journal) (x .mark)
 
--- the steps that a run tells  [01 Calls, Run]
-abbrev pub steps-told : Call → Machine → ℕ
-steps-told (step-of level vector) x = 0
-steps-told (run-of budget stop) x = running-on budget stop x .a .steps
-steps-told undo-once x = 0
+  -- the machine after a call: what the next call is given  [00 demand 3]
+  unfoldable pub act : Call → Machine → Machine
+  act (step-of level vector) x =
+      let c = stepping level vector x in
+      record { slots = c .s; memory = c .m; journal = c .j; mark = c .a .mark }
+  act (run-of budget stop) x =
+      let c = running-on budget stop x in
+      record { slots = c .s; memory = c .m; journal = c .j; mark = c .a .mark }
+  act undo-once x =
+      let c = undoing x in
+      record { slots = c .s; memory = c .m; journal = x .journal; mark = c .a .mark }
+
+  -- the number of a call's answer  [01 Calls]
+  abbrev pub number-told : Call → Machine → ℕ
+  number-told (step-of level vector) x = stepping level vector x .a .number
+  number-told (run-of budget stop) x = running-on budget stop x .a .number
+  number-told undo-once x = undoing x .a .number
+
+  -- the steps that a run tells  [01 Calls, Run]
+  abbrev pub steps-told : Call → Machine → ℕ
+  steps-told (step-of level vector) x = 0
+  steps-told (run-of budget stop) x = running-on budget stop x .a .steps
+  steps-told undo-once x = 0
 
 -- ---- a mix of calls, on whatever is kept between them
 
@@ -74,9 +76,9 @@ pub record Calls (X : Type 0) : Type 0 where
   pub number : Call → X → ℕ
   pub steps : Call → X → ℕ
 
--- the calls of this crate; those from C are another such record  [01 Calls]
-abbrev pub machine-calls : Calls Machine
-machine-calls = record { next = act; number = number-told; steps = steps-told }
+-- the calls of this crate in a manner; those from C are another such record  [01 Calls] [K5]
+abbrev pub machine-calls : Manner → Calls Machine
+machine-calls w = record { next = act w; number = number-told w; steps = steps-told w }
 
 -- all but the last step  [00 demand 3]
 abbrev pub all-but-last : List Request → List Request

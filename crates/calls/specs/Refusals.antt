@@ -1,6 +1,6 @@
 -- Refusals.antt - the tables of [01 Calls]: for each call the numbers that it can give, in order, and when each applies; a run's reasons.
 -- Not here: what a call gives back (Calls.antt).
--- Laws: proofs/RefusalLaws.antt, proofs/FormedLaws.antt, proofs/RunLaws.antt.  Source: [01 Calls and what they give back].
+-- Laws: proofs/RefusalLaws.antt, proofs/FormedLaws.antt, proofs/RunLaws.antt.  Source: [01 Calls and what they give back], [K5].
 use Prim.Native.Nat.{ℕ, _-_, _%_, _<_}
 use mathlib.Core.Path.{_≡_}
 use mathlib.Core.Bool.{false}
@@ -10,6 +10,9 @@ use Rattle.codes.specs.Codes.{Stopped, Halted, LeastMemory, MostMemory, TopLeve
 use Rattle.bank.specs.Bank.{pc-of, sr-of, mode-of}
 use Rattle.record.specs.Limits.{longest-record, valid-status}
 use Rattle.undo.specs.Undo.{none, well-formed}
+use Rattle.oldest.specs.Room.{torn, rows-of}
+use Rattle.calls.specs.declared.Manner.{Manner}
+use Rattle.calls.specs.declared.Manner.the-variants.{Dropping, Keeping}
 
 -- a line of a table: a number, and when it applies  [01 Calls, table]
 pub record Line : Type 1 where
@@ -50,22 +53,37 @@ state-line s = record { number = 2; applies = BadState s }
 abbrev pub mark-line : List ℕ → ℕ → Line
 mark-line j mark = record { number = 4; applies = length j < mark }
 
+-- no room for one more record: the journal is shorter than the longest altogether, or, where all are kept, fewer bytes are free
+-- [K5] [01 Calls, table]
+abbrev pub NoRoom : Manner → List ℕ → ℕ → Type 0
+NoRoom Dropping j mark = length j < longest-record
+NoRoom Keeping j mark = length j - mark < longest-record
+
+-- records must be dropped, and one on the way back is not well shaped  [K5]
+abbrev pub TornWay : ℕ → List ℕ → ℕ → Type 0
+TornWay len j mark = (length j - mark < longest-record) × (rows-of len j mark ≡ torn)
+
+-- a line of the dropping manner alone  [K5]
+abbrev pub when-dropping : Manner → Line → List Line → List Line
+when-dropping Dropping l ls = l ∷ ls
+when-dropping Keeping l ls = ls
+
 -- reset gives 1  [01 Calls, table]
 abbrev pub reset-table : List ℕ → List Line
 reset-table m = memory-line m ∷ []
 
--- step gives 1 to 6  [01 Calls, table]
-abbrev pub step-table : List ℕ → List ℕ → ℕ → List ℕ → ℕ → List Line
-step-table s m level j mark =
+-- step gives 1 to 6, and 8 where it may drop records  [01 Calls, table] [K5]
+abbrev pub step-table : Manner → List ℕ → List ℕ → ℕ → List ℕ → ℕ → List Line
+step-table w s m level j mark =
     memory-line m
     ∷ state-line s
     ∷ record { number = 3; applies = TopLevel < level }
     ∷ mark-line j mark
-    ∷ record { number = 5; applies = length j - mark < longest-record }
+    ∷ record { number = 5; applies = NoRoom w j mark }
     ∷ record { number = 6; applies = mode-of s ≡ Halted }
-    ∷ []
+    ∷ when-dropping w (record { number = 8; applies = TornWay (length m) j mark }) []
 
--- run gives 1 to 4  [01 Calls, table]
+-- run gives 1 to 4, in either manner  [01 Calls, table]
 abbrev pub run-table : List ℕ → List ℕ → ℕ → List ℕ → ℕ → List Line
 run-table s m budget j mark =
     memory-line m ∷ state-line s ∷ record { number = 3; applies = MostSteps < budget } ∷ mark-line j mark ∷ []
@@ -80,12 +98,12 @@ undo-table s m j mark =
     ∷ record { number = 8; applies = well-formed s m j mark ≡ none }
     ∷ []
 
--- the reasons that end a run, with n steps done, in the order in which it asks  [01 Calls, Run]
-abbrev pub reasons : ℕ → ℕ → ℕ → List ℕ → List ℕ → ℕ → List Line
-reasons budget stop n s j mark =
+-- the reasons that end a run, with n steps done, in the order in which it asks: 6 is asked right after 4  [01 Calls, Run] [K5]
+abbrev pub reasons : Manner → ℕ → ℕ → ℕ → List ℕ → List ℕ → List ℕ → ℕ → List Line
+reasons w budget stop n s m j mark =
     record { number = 1; applies = n ≡ budget }
     ∷ record { number = 2; applies = mode-of s ≡ Halted }
     ∷ record { number = 3; applies = mode-of s ≡ Stopped }
-    ∷ record { number = 4; applies = length j - mark < longest-record }
-    ∷ record { number = 5; applies = pc-of s ≡ stop }
-    ∷ []
+    ∷ record { number = 4; applies = NoRoom w j mark }
+    ∷ when-dropping w (record { number = 6; applies = TornWay (length m) j mark })
+    (record { number = 5; applies = pc-of s ≡ stop } ∷ [])

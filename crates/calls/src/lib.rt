@@ -1,26 +1,38 @@
 // lib.rt - what the calls of the machine answer: the answers' types, the numbers of their refusals, and all of a call that takes no step.
 // Means: specs/Calls.antt.  Laws: proofs/NumberLaws.antt. The theorems about the four calls stand in proofs/ too.
-// Uses: codes, bus, record, undo, exception.  Source: [01 Calls and what they give back], [01 The journal], [K2].
+// Uses: codes, bus, record, undo, exception.  Source: [01 Calls and what they give back], [01 The journal], [K2], [K5].
 ghost use mathlib.Core.Path.{_≡_};
-ghost use Rattle.calls.specs.Calls.{memory-fits, state-fits, reset-slots, refused-slots, step-number, run-number, undo-number, undo-answer};
+ghost use Prim.Native.Nat.{_≤_};
+ghost use lib.ListN.{length};
+ghost use Rattle.calls.specs.Calls.{memory-fits, state-fits, reset-slots, refused-slots, no-room, step-tests, run-number, undo-number, undo-answer};
 use codes::SLOTS;
 use record::limits::LONGEST_RECORD;
 use undo::Answer;
+
+// What a step or a run does where the journal is full: it drops the fewest oldest records that make room, or it keeps them all and ends.
+pub enum Manner {
+    Dropping,
+    Keeping,
+}
 
 // The answers are C's structs: the calls from C (crate ibezofanle) hand them on, and c/ibezofanle.h declares them. New members go to
 // the end.
 
 // A step's answer: the refusal's number or 0; the event: 0 nothing, 1 more than the vector that was taken first, 257 a halt; the mark;
-// and the clocks that the step took, 0 where it is refused.
+// the clocks that the step took; the bytes of the journal that were moved and the records that were dropped to make room. Where it is
+// refused these three are 0.
 #[repr(C)]
 pub struct StepAnswer {
     pub number: u32,
     pub event: u32,
     pub mark: usize,
     pub clocks: u32,
+    pub moved: usize,
+    pub dropped: usize,
 }
 
-// A run's answer: the refusal's number or 0, the reason why it ended, the mark, the number of steps done, and the sum of their clocks.
+// A run's answer: the refusal's number or 0, the reason why it ended, the mark, the number of steps done, and the sums of their clocks,
+// of the bytes moved (at most the largest number of 64 bits) and of the records dropped.
 #[repr(C)]
 pub struct RunAnswer {
     pub number: u32,
@@ -28,6 +40,8 @@ pub struct RunAnswer {
     pub mark: usize,
     pub steps: u32,
     pub clocks: u32,
+    pub moved: u64,
+    pub dropped: u64,
 }
 
 // An undo's answer: the refusal's number or 0, and the mark.
@@ -112,15 +126,27 @@ pub fn refused_slots() -> [u32; SLOTS]
     ]
 }
 
-// The number of a step's refusal, or 0.
+// Whether no room for one more record can be had.
+fn no_room(manner: Manner, journal: &[u8], mark: usize) -> bool
+    requires { ⌜ mark ≤ length (now journal) ⌝ }
+    ensures { λ r. ⌜ r ≡ no-room manner (now (journal .entry)) mark ⌝ }
+{
+    match manner {
+        Manner::Dropping => journal.len() < LONGEST_RECORD,
+        Manner::Keeping => journal.len() - mark < LONGEST_RECORD,
+    }
+}
+
+// The number of a step's refusal, or 0: all but 8.
 pub fn step_number(
+    manner: Manner,
     slots: &[u32; SLOTS],
     memory: &[u8],
     level: u32,
     journal: &[u8],
     mark: usize,
 ) -> u32
-    ensures { λ r. ⌜ r ≡ step-number (now (slots .entry)) (now (memory .entry)) level (now (journal .entry)) mark ⌝ }
+    ensures { λ r. ⌜ r ≡ step-tests manner (now (slots .entry)) (now (memory .entry)) level (now (journal .entry)) mark 0 ⌝ }
 {
     let fits = memory_fits(memory);
     if !fits {
@@ -138,8 +164,8 @@ pub fn step_number(
     if past {
         return 4;
     }
-    let short = journal.len() - mark < LONGEST_RECORD;
-    if short {
+    let full = no_room(manner, journal, mark);
+    if full {
         return 5;
     }
     let halted = slots[codes::MODE] == codes::HALTED;

@@ -1,13 +1,14 @@
-// lib.rt - the calls from C: reset, step, run and undo, with the state in a lent block of 80 bytes. No call has a `requires`.
+// lib.rt - the calls from C: reset, step and run in both manners, undo, with the state in a lent block of 80 bytes. No call has a `requires`.
 // Means: Calls and Promises of the crate block_calls, where the laws and the theorems stand.
-// Uses: block, calls, block_calls, machine.  Declared for C in c/ibezofanle.h.  Source: [K1], [K2].
+// Uses: block, calls, block_calls, keeping, machine.  Declared for C in c/ibezofanle.h.  Source: [K1], [K2], [K5].
+ghost use Rattle.calls.specs.declared.Manner.the-variants.{Dropping, Keeping};
 ghost use Rattle.block_calls.specs.Promises.{IbzResetPromise, IbzStepPromise, IbzRunPromise, IbzUndoPromise};
 use block::BLOCK_LENGTH;
 use block_calls::ResetAnswer;
 use calls::RunAnswer;
 use calls::StepAnswer;
 use calls::UndoAnswer;
-use machine::NO_CLOCKS;
+use keeping::NO_CLOCKS;
 
 // The refusal of a block that is not 80 bytes long.
 const NO_BLOCK: u32 = 9;
@@ -26,6 +27,8 @@ pub extern "C" fn ibz_reset(block: &mut [u8], memory: &[u8]) -> ResetAnswer
     ResetAnswer { number }
 }
 
+// ---- step and run that drop the oldest records where the journal is full
+
 #[no_mangle]
 pub extern "C" fn ibz_step(
     block: &mut [u8],
@@ -35,7 +38,7 @@ pub extern "C" fn ibz_step(
     journal: &mut [u8],
     mark: usize,
 ) -> StepAnswer
-    ensures { λ a. ⌜ IbzStepPromise (now (block .entry)) (now (memory .entry)) level vector (now (journal .entry)) mark (now (block .exit)) (now (memory .exit)) (now (journal .exit)) a ⌝ }
+    ensures { λ a. ⌜ IbzStepPromise Dropping (now (block .entry)) (now (memory .entry)) level vector (now (journal .entry)) mark (now (block .exit)) (now (memory .exit)) (now (journal .exit)) a ⌝ }
 {
     if block.len() != BLOCK_LENGTH {
         return StepAnswer {
@@ -43,6 +46,8 @@ pub extern "C" fn ibz_step(
             event: 0,
             mark,
             clocks: NO_CLOCKS,
+            moved: 0,
+            dropped: 0,
         };
     }
     let mut slots = block::slots_in(block);
@@ -60,7 +65,7 @@ pub extern "C" fn ibz_run(
     journal: &mut [u8],
     mark: usize,
 ) -> RunAnswer
-    ensures { λ a. ⌜ IbzRunPromise (now (block .entry)) (now (memory .entry)) budget stop (now (journal .entry)) mark (now (block .exit)) (now (memory .exit)) (now (journal .exit)) a ⌝ }
+    ensures { λ a. ⌜ IbzRunPromise Dropping (now (block .entry)) (now (memory .entry)) budget stop (now (journal .entry)) mark (now (block .exit)) (now (memory .exit)) (now (journal .exit)) a ⌝ }
 {
     if block.len() != BLOCK_LENGTH {
         return RunAnswer {
@@ -69,6 +74,8 @@ pub extern "C" fn ibz_run(
             mark,
             steps: 0,
             clocks: NO_CLOCKS,
+            moved: 0,
+            dropped: 0,
         };
     }
     let mut slots = block::slots_in(block);
@@ -76,6 +83,65 @@ pub extern "C" fn ibz_run(
     block::put_block(block, &slots);
     a
 }
+
+// ---- step and run that keep all records, and take no step where the journal is full
+
+#[no_mangle]
+pub extern "C" fn ibz_step_keeping(
+    block: &mut [u8],
+    memory: &mut [u8],
+    level: u32,
+    vector: u8,
+    journal: &mut [u8],
+    mark: usize,
+) -> StepAnswer
+    ensures { λ a. ⌜ IbzStepPromise Keeping (now (block .entry)) (now (memory .entry)) level vector (now (journal .entry)) mark (now (block .exit)) (now (memory .exit)) (now (journal .exit)) a ⌝ }
+{
+    if block.len() != BLOCK_LENGTH {
+        return StepAnswer {
+            number: NO_BLOCK,
+            event: 0,
+            mark,
+            clocks: NO_CLOCKS,
+            moved: 0,
+            dropped: 0,
+        };
+    }
+    let mut slots = block::slots_in(block);
+    let a = keeping::step_keeping(&mut slots, memory, level, vector, journal, mark);
+    block::put_block(block, &slots);
+    a
+}
+
+#[no_mangle]
+pub extern "C" fn ibz_run_keeping(
+    block: &mut [u8],
+    memory: &mut [u8],
+    budget: u32,
+    stop: u32,
+    journal: &mut [u8],
+    mark: usize,
+) -> RunAnswer
+    ensures { λ a. ⌜ IbzRunPromise Keeping (now (block .entry)) (now (memory .entry)) budget stop (now (journal .entry)) mark (now (block .exit)) (now (memory .exit)) (now (journal .exit)) a ⌝ }
+{
+    if block.len() != BLOCK_LENGTH {
+        return RunAnswer {
+            number: NO_BLOCK,
+            reason: 0,
+            mark,
+            steps: 0,
+            clocks: NO_CLOCKS,
+            moved: 0,
+            dropped: 0,
+        };
+    }
+    let mut slots = block::slots_in(block);
+    let a = keeping::run_keeping(&mut slots, memory, budget, stop, journal, mark);
+    block::put_block(block, &slots);
+    a
+}
+
+// ---- undo
 
 #[no_mangle]
 pub extern "C" fn ibz_undo(

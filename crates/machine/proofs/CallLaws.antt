@@ -1,34 +1,31 @@
--- CallLaws.antt - the laws that the calls cite: a reset done or refused, a step that is taken, and what each public call promises.
--- reset-done, reset-misfit; valid-lent, log-ready, log-done, record-fits, taken; step-.., run-.., undo-.. of the public calls.
--- Uses: bits, record, touch, undo, step, calls.
+-- CallLaws.antt - the laws that the calls cite: a reset done or refused, a step in the room that it finds or makes, an undo.
+-- reset-done, reset-misfit; room-tells, step-may, step-promised, step-torn-promised, step-refused-promised; undo-promised.
+-- Uses: bits, record, undo, oldest, calls.
 use Prim.Native.Nat.{ℕ, _+_, _-_, _≤_, _<_, _^_}
 use native.Mathlib.Omega.{arith}
-use mathlib.Core.Path.{_≡_, sym, ap, _∙_}
-use mathlib.Core.Bool.{Bool, true, false}
+use mathlib.Core.Path.{_≡_, refl, sym, ap, _∙_}
+use mathlib.Core.Bool.{Bool, true, false, not}
 use mathlib.Core.List.{List}
 use lib.ListN.{length, getD}
 use lib.Dec.{eqb}
-use borrow.Author.Tests.{eqb-true}
-use Rattle.codes.specs.Codes.{MostSteps}
-use Rattle.step.specs.Steps.{one-step, step-clocks}
-use Rattle.numbers.specs.Number.{written}
-use Rattle.numbers.proofs.WrittenLaws.{length-written}
-use Rattle.record.specs.Limits.{slot-limit, byte-limit, longest-record}
-use Rattle.record.specs.Change.{Ascending, changes, restore, step-record}
-use Rattle.record.proofs.SizeLaws.{valid-slots-from, valid-bytes-from}
-use Rattle.touch.specs.Touch.{LogOk, Noted}
-use Rattle.touch.proofs.TouchLaws.{log-start}
+use borrow.Author.Tests.{eqb-true, eqb-false, ltb-false, lt-ltb, le-ltb, ne-eqb, not-true, not-false}
+use Rattle.bits.specs.Bits.{pick}
+use Rattle.record.specs.Limits.{longest-record}
+use Rattle.record.proofs.SizeLaws.{valid-bytes-from}
 use Rattle.undo.specs.declared.Answer.{Answer}
 use Rattle.undo.specs.Undo.{undo-of}
+use Rattle.oldest.specs.declared.Room.{Room}
+use Rattle.oldest.specs.Room.{make-room, RoomIs}
+use Rattle.oldest.proofs.RoomLaws.{Made, there, refused, on-the-way, dropping, made-cases}
+use Rattle.calls.specs.declared.Manner.the-variants.{Dropping}
 use Rattle.calls.specs.declared.StepAnswer.{StepAnswer}
-use Rattle.calls.specs.declared.RunAnswer.{RunAnswer}
 use Rattle.calls.specs.declared.UndoAnswer.{UndoAnswer}
-use Rattle.machine.specs.Loop.{GoesOn}
-use Rattle.calls.proofs.ValidLaws.{Valid, state-inv, fits-inv, state-fits-when, valid-after-step, record-room}
-use Rattle.calls.specs.Promises.{StepPromise, RunPromise, UndoPromise}
-use Rattle.calls.proofs.RefusalLaws.{step-inv, run-inv}
-use Rattle.calls.specs.Calls.{StepCall, RunCall, memory-fits, state-fits, reset-slots, refused-slots, reset-number, reset-call, step-number}
-use Rattle.calls.specs.Calls.{step-taken, step-call, run-number, running, run-call, undo-number, undo-answer, undo-call}
+use Rattle.calls.proofs.ValidLaws.{fits-inv}
+use Rattle.calls.proofs.JournalLaws.{room-inside, room-length}
+use Rattle.calls.proofs.RefusalLaws.{tests-inv, tests-passed, tests-stopped, step-inv}
+use Rattle.calls.specs.Promises.{StepPromise, UndoPromise}
+use Rattle.calls.specs.Calls.{memory-fits, state-fits, reset-slots, refused-slots, reset-number, reset-call, no-room, torn-way, step-tests}
+use Rattle.calls.specs.Calls.{step-number, step-taken, step-with-room, step-call, undo-number, undo-answer, undo-call}
 
 -- reset
 module _ (m : List ℕ) (b : Bool) (e : b ≡ memory-fits m) where
@@ -46,122 +43,94 @@ module _ (m : List ℕ) (b : Bool) (e : b ≡ memory-fits m) where
   pub reset-misfit-number : b ≡ false → 1 ≡ reset-number m
   reset-misfit-number t = cc
 
--- what is lent and fits is valid
-pub valid-lent : (s m : List ℕ) → length s ≡ slot-limit → ((k : ℕ) → getD s k 0 < 2 ^ 32) → ((k : ℕ) → getD m k 0 < 256) → memory-fits m ≡ true → state-fits s ≡ true → Valid s m
-valid-lent s m size words bytes fits ok =
-    let q = state-inv s ok in
-    record {
-      slots = size;
-      values = valid-slots-from s (q .0) (omega (arith, q .1)) words;
-      bytes = valid-bytes-from m bytes;
-      fits = fits;
-    }
+-- what making room tells of the way back
+room-tells : (len : ℕ) (j : List ℕ) (mark : ℕ) → no-room Dropping j mark ≡ false → make-room len j mark .a .number ≡ pick (torn-way Dropping len j mark) 8 0
+room-tells len j mark free = go (made-cases len j mark)
+  where
+    long : longest-record ≤ length j
+    long = ltb-false (length j) longest-record free
 
--- a step that is taken: t, m₁, ev, ck are what it gives, l₁ the log of n entries
-module _ (s m j l : List ℕ) (level vector mark : ℕ) (valid : Valid s m) (room : mark + longest-record ≤ length j) (t m₁ l₁ : List ℕ) (n ev ck : ℕ)
-    (e : (t ≡ one-step s m level vector .s) × ((m₁ ≡ one-step s m level vector .m) × ((ev ≡ one-step s m level vector .event) × (Noted m l 0 byte-limit m₁ l₁ n × (ck ≡ step-clocks s m level vector))))) where
-  noted : Noted m l 0 byte-limit m₁ l₁ n
-  noted = e .1 .1 .1 .0
+    go : Made len j mark → make-room len j mark .a .number ≡ pick (torn-way Dropping len j mark) 8 0
+    go (there q e) = rw (e, le-ltb (length j - mark) longest-record q)
+    go (refused q r e) = absurd (omega (arith, long))
+    go (on-the-way q r t e) = rw (e, lt-ltb (length j - mark) longest-record q, t)
+    go (dropping q r rs t e) = rw (e, lt-ltb (length j - mark) longest-record q, t)
 
-  abbrev logged : List ℕ
-  logged = step-record s t (restore (changes l₁ n) m₁) m₁
+-- a refused room leaves the journal as it was
+room-as-it-was : (len : ℕ) (j : List ℕ) (mark : ℕ) → (make-room len j mark .a .number ≡ 0 → ⊥) → make-room len j mark .j ≡ j
+room-as-it-was len j mark h = go (made-cases len j mark)
+  where
+    go : Made len j mark → make-room len j mark .j ≡ j
+    go (there q e) = rw e
+    go (refused q r e) = rw e
+    go (on-the-way q r t e) = rw e
+    go (dropping q r rs t e) = absurd (h (rw e))
 
-  recorded : logged ≡ step-record s (one-step s m level vector .s) m (one-step s m level vector .m)
-  recorded = rw (noted .start, e .0, e .1 .0)
-
-  short : length logged ≤ longest-record
-  short = rw recorded (record-room s m level vector valid)
-
-  pub record-fits : mark + length logged ≤ length j
-  record-fits = let h = short in omega arith
-
-  module _ (j₁ : List ℕ) (r : ℕ) (q : (r ≡ mark + length logged) × (j₁ ≡ written j mark logged)) where
-    goes-on : GoesOn t m m₁ j j₁ l l₁ r
-    goes-on =
-        let v = valid-after-step s m level vector valid in
-        let g : length j₁ ≡ length j = ap length (q .1) ∙ length-written j mark logged record-fits in
-        record {
-          state = rw (e .0) (state-fits-when (one-step s m level vector .s) (one-step s m level vector .m) v);
-          memory = rw (e .1 .0) (v .fits);
-          same-memory = noted .same;
-          same-journal = g;
-          same-log = noted .long;
-          inside = omega (arith, record-fits, q .0);
-        }
-
-    pub taken : let c = step-taken s m level vector j mark in
-        (t ≡ c .s) × ((m₁ ≡ c .m) × ((j₁ ≡ c .j) × ((record { number = 0; event = ev; mark = r; clocks = ck } ≡ c .a) × GoesOn t m m₁ j j₁ l l₁ r)))
-    unfolding step-taken
-    taken =
-        let x = e .1 .1 .0 in
-        let w = e .1 .1 .1 .1 in
-        let y = q .0 ∙ ap (λ (b : List ℕ). mark + length b) recorded in
-        (e .0, (e .1 .0, (q .1 ∙ ap (written j mark) recorded, (rw (x, y, w), goes-on))))
-
--- a log that has room for a step
-pub log-ready : (m l : List ℕ) → memory-fits m ≡ true → byte-limit ≤ length l → LogOk m l 0 × (70 ≤ length l)
-log-ready m l f h = (log-start m l (fits-inv m f .2), h)
-
--- what a log is after a step
-pub log-done : (m l m₁ l₁ : List ℕ) (n : ℕ) → Noted m l 0 byte-limit m₁ l₁ n → (n ≤ length l₁) × (n < 2 ^ 32) × Ascending 0 (length m₁) (changes l₁ n)
-log-done m l m₁ l₁ n noted = (noted .ok .room, (let h = noted .most in omega arith), noted .ok .order)
-
--- the public step: k is its number
-module _ (s m : List ℕ) (level vector : ℕ) (j : List ℕ) (mark k : ℕ) (e : k ≡ step-number s m level j mark) where
-  module _ (z : eqb k 0 ≡ true) where
-    accepted : step-number s m level j mark ≡ 0
-    accepted = sym e ∙ eqb-true k 0 z
-
-    pub step-may : (memory-fits m ≡ true) × (mark + longest-record ≤ length j) × (state-fits s ≡ true)
-    step-may =
-        let q = step-inv s m level j mark accepted in
-        (q .0, (let a = q .3 in let b = q .4 in omega arith), q .1)
-
-    called : step-taken s m level vector j mark ≡ step-call s m level vector j mark
-    unfolding step-call
-    called = rw accepted
-
-    pub step-promised : (x : ℕ) → x ≡ vector → (s₁ m₁ j₁ : List ℕ) (a : StepAnswer) → s₁ ≡ step-taken s m level x j mark .s → m₁ ≡ step-taken s m level x j mark .m → j₁ ≡ step-taken s m level x j mark .j
-        → a ≡ step-taken s m level x j mark .a → StepPromise s m level vector j mark s₁ m₁ j₁ a
-    step-promised x d s₁ m₁ j₁ a p q r t =
-        let c : step-taken s m level x j mark ≡ step-call s m level vector j mark = ap (λ (y : ℕ). step-taken s m level y j mark) d ∙ called in
-        record {
-          slots = p ∙ ap (λ (c : StepCall). c .s) c;
-          memory = q ∙ ap (λ (c : StepCall). c .m) c;
-          journal = r ∙ ap (λ (c : StepCall). c .j) c;
-          answer = t ∙ ap (λ (c : StepCall). c .a) c;
-        }
-
-  pub step-refused-promised : eqb k 0 ≡ false → StepPromise s m level vector j mark s m j (record { number = k; event = 0; mark = mark; clocks = 0 })
+-- the public step: k is its number before the way back is judged
+module _ (s m : List ℕ) (level vector : ℕ) (j : List ℕ) (mark k : ℕ) (e : k ≡ step-tests Dropping s m level j mark 0) where
+  -- refused with the number n
+  refused-with : (n : ℕ) (j₁ : List ℕ) → step-number Dropping s m level j mark ≡ n → (n ≡ 0 → ⊥) → j₁ ≡ j
+      → StepPromise Dropping s m level vector j mark s m j₁ (record { number = n; event = 0; mark = mark; clocks = 0; moved = 0; dropped = 0 })
   unfolding step-call
-  step-refused-promised z = let y : eqb (step-number s m level j mark) 0 ≡ false = rw e at z in record { slots = rw y; memory = rw y; journal = rw y; answer = rw (y, e) }
+  refused-with n j₁ is z same =
+      let y : eqb (step-number Dropping s m level j mark) 0 ≡ false = rw is (ne-eqb n 0 z) in
+      record { slots = rw y; memory = rw y; journal = rw y same; answer = rw (y, is) }
 
--- the public run
-module _ (s m : List ℕ) (budget stop : ℕ) (j : List ℕ) (mark k : ℕ) (e : k ≡ run-number s m budget j mark) where
+  pub step-refused-promised : eqb k 0 ≡ false → StepPromise Dropping s m level vector j mark s m j (record { number = k; event = 0; mark = mark; clocks = 0; moved = 0; dropped = 0 })
+  unfolding step-number
+  step-refused-promised z =
+      let y = eqb-false k 0 z in
+      refused-with k j (tests-stopped Dropping s m level j mark (pick (torn-way Dropping (length m) j mark) 8 0) (λ q. y (e ∙ q)) ∙ sym e) y refl
+
   module _ (z : eqb k 0 ≡ true) where
-    run-zero : run-number s m budget j mark ≡ 0
-    run-zero = sym e ∙ eqb-true k 0 z
+    zero-first : step-tests Dropping s m level j mark 0 ≡ 0
+    zero-first = sym e ∙ eqb-true k 0 z
 
-    pub run-may : (memory-fits m ≡ true) × (mark ≤ length j) × (state-fits s ≡ true) × (budget ≤ MostSteps)
-    run-may = let q = run-inv s m budget j mark run-zero in (q .0, q .3, q .1, q .2)
+    pub step-inside : mark ≤ length j
+    step-inside = tests-inv Dropping s m level j mark 0 zero-first .3
 
-    run-called : running budget 0 0 stop s m j mark ≡ run-call s m budget stop j mark
-    unfolding run-call
-    run-called = rw run-zero
+    -- the number, once the way back is judged
+    judged : step-number Dropping s m level j mark ≡ make-room (length m) j mark .a .number
+    unfolding step-number
+    judged =
+        tests-passed Dropping s m level j mark (pick (torn-way Dropping (length m) j mark) 8 0) zero-first
+        ∙ sym (room-tells (length m) j mark (tests-inv Dropping s m level j mark 0 zero-first .4))
 
-    pub run-promised : (s₁ m₁ j₁ : List ℕ) (a : RunAnswer) → s₁ ≡ running budget 0 0 stop s m j mark .s → m₁ ≡ running budget 0 0 stop s m j mark .m → j₁ ≡ running budget 0 0 stop s m j mark .j
-        → a ≡ running budget 0 0 stop s m j mark .a → RunPromise s m budget stop j mark s₁ m₁ j₁ a
-    run-promised s₁ m₁ j₁ a p q r t =
-        record {
-          slots = p ∙ ap (λ (c : RunCall). c .s) run-called;
-          memory = q ∙ ap (λ (c : RunCall). c .m) run-called;
-          journal = r ∙ ap (λ (c : RunCall). c .j) run-called;
-          answer = t ∙ ap (λ (c : RunCall). c .a) run-called;
-        }
+    module _ (j₁ : List ℕ) (a : Room) (room : RoomIs (length m) j mark j₁ a) where
+      number-is : step-number Dropping s m level j mark ≡ a .number
+      number-is = judged ∙ sym (ap (λ (r : Room). r .number) (room .answer))
 
-  pub run-refused-promised : eqb k 0 ≡ false → RunPromise s m budget stop j mark s m j (record { number = k; reason = 0; mark = mark; steps = 0; clocks = 0 })
-  unfolding run-call
-  run-refused-promised z = let y : eqb (run-number s m budget j mark) 0 ≡ false = rw e at z in record { slots = rw y; memory = rw y; journal = rw y; answer = rw (y, e) }
+      pub step-torn-promised : not (eqb (a .number) 0) ≡ true
+          → StepPromise Dropping s m level vector j mark s m j₁ (record { number = a .number; event = 0; mark = mark; clocks = 0; moved = 0; dropped = 0 })
+      step-torn-promised t =
+          let y = eqb-false (a .number) 0 (not-true (eqb (a .number) 0) t) in
+          refused-with (a .number) j₁ number-is y (room .journal ∙ room-as-it-was (length m) j mark (λ q. y (ap (λ (r : Room). r .number) (room .answer) ∙ q)))
+
+      module _ (t : not (eqb (a .number) 0) ≡ false) where
+        accepted : step-number Dropping s m level j mark ≡ 0
+        accepted = number-is ∙ eqb-true (a .number) 0 (not-false (eqb (a .number) 0) t)
+
+        pub step-may : ((i : ℕ) → getD j i 0 < 256) → (memory-fits m ≡ true) × (a .mark + longest-record ≤ length j₁) × (state-fits s ≡ true)
+        step-may bytes =
+            let i = step-inv Dropping s m level j mark accepted in
+            let lent = valid-bytes-from j bytes in
+            let small : length m ≤ 2 ^ 32 = (let f = fits-inv m (i .0) in omega (arith, f .2)) in
+            let inside = room-inside (length m) j mark small (i .3) Dropping lent (i .4) (i .6) in
+            let same = room-length (length m) j mark small (i .3) Dropping lent (i .4) (i .6) in
+            (i .0, rw (room .answer, room .journal) (omega (arith, inside, same)), i .1)
+
+        pub step-promised : (x : ℕ) → x ≡ vector → (s₂ m₂ j₂ : List ℕ) (b : StepAnswer) → s₂ ≡ step-taken s m level x j₁ (a .mark) .s → m₂ ≡ step-taken s m level x j₁ (a .mark) .m
+            → j₂ ≡ step-taken s m level x j₁ (a .mark) .j → b ≡ step-taken s m level x j₁ (a .mark) .a
+            → StepPromise Dropping s m level vector j mark s₂ m₂ j₂ (record { number = 0; event = b .event; mark = b .mark; clocks = b .clocks; moved = a .moved; dropped = a .dropped })
+        unfolding step-call step-with-room step-taken
+        step-promised x d s₂ m₂ j₂ b p q r u =
+            let y : eqb (step-number Dropping s m level j mark) 0 ≡ true = rw accepted in
+            record {
+              slots = rw y (p ∙ ap (λ (v : ℕ). step-taken s m level v j₁ (a .mark) .s) d);
+              memory = rw y (q ∙ ap (λ (v : ℕ). step-taken s m level v j₁ (a .mark) .m) d);
+              journal = rw (y, sym (room .journal), sym (room .answer)) (r ∙ ap (λ (v : ℕ). step-taken s m level v j₁ (a .mark) .j) d);
+              answer = rw (y, sym (room .answer), u, d);
+            }
 
 -- the public undo
 module _ (s m j : List ℕ) (mark k : ℕ) (e : k ≡ undo-number s m j mark) where

@@ -1,24 +1,17 @@
-// lib.rt - the calls of the machine: reset, step, run and undo, with their refusals. No call has a `requires`.
-// Means: Calls and Promises of the crate calls, where the theorems about them stand.  Laws: proofs/CallLaws.antt, proofs/LoopLaws.antt.
-// Uses: codes, bits, record, undo, step, calls.  Source: [01 Calls and what they give back], [01 The journal], [K2].
-ghost use mathlib.Core.Path.{_≡_};
-ghost use mathlib.Core.Bool.{true};
-ghost use Prim.Native.Nat.{ℕ, _+_, _≤_, _<_, _^_};
-ghost use lib.ListN.{length, getD};
-ghost use Rattle.codes.specs.Codes.{MostSteps};
-ghost use Rattle.record.specs.Limits.{slot-limit, byte-limit, longest-record};
-ghost use Rattle.calls.specs.Calls.{memory-fits, state-fits, step-taken, running};
-ghost use Rattle.machine.specs.Loop.{GoesOn};
+// lib.rt - the calls of the machine: reset, step, run and undo, with their refusals. No call has a `requires`. Where the journal is full,
+// step and run drop its oldest records; those that keep all of them are step_keeping and run_keeping of the crate keeping.
+// Means: Calls and Promises of the crate calls, step and run at Dropping.  Laws: proofs/CallLaws.antt, proofs/FirstLaws.antt.
+// Uses: codes, bits, record, undo, oldest, calls, keeping, full.  Source: [01 Calls and what they give back], [K2], [K5].
+ghost use Rattle.calls.specs.declared.Manner.the-variants.{Dropping};
 ghost use Rattle.calls.specs.Promises.{ResetPromise, StepPromise, RunPromise, UndoPromise};
+use calls::Manner;
 use calls::RunAnswer;
 use calls::StepAnswer;
 use calls::UndoAnswer;
 use codes::SLOTS;
+use keeping::NO_CLOCKS;
 use record::limits::BYTE_LIMIT;
 use record::limits::LONGEST_RECORD;
-
-// The clocks of a call that is refused.
-pub const NO_CLOCKS: u32 = 0;
 
 // Reset. It does not write memory.
 pub fn reset(slots: &mut [u32; SLOTS], memory: &[u8]) -> u32
@@ -35,71 +28,7 @@ pub fn reset(slots: &mut [u32; SLOTS], memory: &[u8]) -> u32
     1
 }
 
-// What the type says of slots: their number, and 32 bits each.
-fn words(s: &[u32]) -> usize
-    ensures { λ r. ⌜ r ≡ length (now (s .entry)) ⌝ }
-    ensures { λ _. ⌜ ((k : ℕ) → getD (now (s .entry)) k 0 < 2 ^ 32) ⌝ }
-{
-    words_there(s)
-}
-
-fn words_there(s: &[u32]) -> usize
-    ensures { λ r. ⌜ r ≡ length (now (s .entry)) ⌝ }
-{
-    s.len()
-}
-
-fn twenty(s: &[u32; SLOTS]) -> usize
-    ensures { λ _. ⌜ length (now (s .entry)) ≡ slot-limit ⌝ }
-    ensures { λ _. ⌜ ((k : ℕ) → getD (now (s .entry)) k 0 < 2 ^ 32) ⌝ }
-{
-    words(s)
-}
-
-// What the type says of memory: bytes.
-fn bytes(m: &[u8]) -> usize
-    ensures { λ r. ⌜ r ≡ length (now (m .entry)) ⌝ }
-    ensures { λ _. ⌜ ((k : ℕ) → getD (now (m .entry)) k 0 < 256) ⌝ }
-{
-    bytes_there(m)
-}
-
-fn bytes_there(m: &[u8]) -> usize
-    ensures { λ r. ⌜ r ≡ length (now (m .entry)) ⌝ }
-{
-    m.len()
-}
-
-// One step and its record at the mark. The log is lent, so that a run makes it once.
-fn step_taken(
-    slots: &mut [u32; SLOTS],
-    memory: &mut [u8],
-    level: u32,
-    vector: u32,
-    journal: &mut [u8],
-    mark: usize,
-    log: &mut [u64],
-) -> StepAnswer
-    requires { ⌜ (memory-fits (now memory) ≡ true) × (mark + longest-record ≤ length (now journal)) × (byte-limit ≤ length (now log)) × (state-fits (now slots) ≡ true) ⌝ }
-    ensures { λ _. ⌜ now (slots .exit) ≡ step-taken (now (slots .entry)) (now (memory .entry)) level vector (now (journal .entry)) mark .s ⌝ }
-    ensures { λ _. ⌜ now (memory .exit) ≡ step-taken (now (slots .entry)) (now (memory .entry)) level vector (now (journal .entry)) mark .m ⌝ }
-    ensures { λ _. ⌜ now (journal .exit) ≡ step-taken (now (slots .entry)) (now (memory .entry)) level vector (now (journal .entry)) mark .j ⌝ }
-    ensures { λ a. ⌜ a ≡ step-taken (now (slots .entry)) (now (memory .entry)) level vector (now (journal .entry)) mark .a ⌝ }
-    ensures { λ a. ⌜ GoesOn (now (slots .exit)) (now (memory .entry)) (now (memory .exit)) (now (journal .entry)) (now (journal .exit)) (now (log .entry)) (now (log .exit)) (a .mark) ⌝ }
-{
-    let size = twenty(slots);
-    let long = bytes(memory);
-    let old = *slots;
-    let e = step::one_step(slots, &old, memory, log, level, vector);
-    let next = record::put_record(journal, mark, &old, slots, memory, log, e.n);
-    StepAnswer {
-        number: 0,
-        event: e.event,
-        mark: next,
-        clocks: e.clocks,
-    }
-}
-
+// A step, after the room that it needs is there or made.
 pub fn step(
     slots: &mut [u32; SLOTS],
     memory: &mut [u8],
@@ -108,84 +37,54 @@ pub fn step(
     journal: &mut [u8],
     mark: usize,
 ) -> StepAnswer
-    ensures { λ a. ⌜ StepPromise (now (slots .entry)) (now (memory .entry)) level vector (now (journal .entry)) mark (now (slots .exit)) (now (memory .exit)) (now (journal .exit)) a ⌝ }
+    ensures { λ a. ⌜ StepPromise Dropping (now (slots .entry)) (now (memory .entry)) level vector (now (journal .entry)) mark (now (slots .exit)) (now (memory .exit)) (now (journal .exit)) a ⌝ }
 {
-    let number = calls::step_number(slots, memory, level, journal, mark);
+    let number = calls::step_number(Manner::Dropping, slots, memory, level, journal, mark);
     let good = number == 0;
     if good {
+        let size = keeping::bytes(journal);
+        let room = oldest::make_room(journal, mark, memory.len());
+        let torn = room.number != 0;
+        if torn {
+            return StepAnswer {
+                number: room.number,
+                event: codes::NO_EVENT,
+                mark,
+                clocks: NO_CLOCKS,
+                moved: 0,
+                dropped: 0,
+            };
+        }
         let mut log = [0u64; BYTE_LIMIT];
-        return step_taken(
+        let a = keeping::step_taken(
             slots,
             memory,
             level,
             bits::wide(vector),
             journal,
-            mark,
+            room.mark,
             &mut log,
         );
+        return StepAnswer {
+            number: 0,
+            event: a.event,
+            mark: a.mark,
+            clocks: a.clocks,
+            moved: room.moved,
+            dropped: room.dropped,
+        };
     }
     StepAnswer {
         number,
         event: codes::NO_EVENT,
         mark,
         clocks: NO_CLOCKS,
+        moved: 0,
+        dropped: 0,
     }
 }
 
-// The steps of a run: it ends at the first reason that holds. The budget is one that is not refused, so the sum of the clocks fits.
-fn running(
-    slots: &mut [u32; SLOTS],
-    memory: &mut [u8],
-    budget: u32,
-    stop: u32,
-    journal: &mut [u8],
-    mark: usize,
-    log: &mut [u64],
-) -> RunAnswer
-    requires { ⌜ (memory-fits (now memory) ≡ true) × (mark ≤ length (now journal)) × (byte-limit ≤ length (now log)) × (state-fits (now slots) ≡ true) × (budget ≤ MostSteps) ⌝ }
-    ensures { λ _. ⌜ now (slots .exit) ≡ running budget 0 0 stop (now (slots .entry)) (now (memory .entry)) (now (journal .entry)) mark .s ⌝ }
-    ensures { λ _. ⌜ now (memory .exit) ≡ running budget 0 0 stop (now (slots .entry)) (now (memory .entry)) (now (journal .entry)) mark .m ⌝ }
-    ensures { λ _. ⌜ now (journal .exit) ≡ running budget 0 0 stop (now (slots .entry)) (now (memory .entry)) (now (journal .entry)) mark .j ⌝ }
-    ensures { λ a. ⌜ a ≡ running budget 0 0 stop (now (slots .entry)) (now (memory .entry)) (now (journal .entry)) mark .a ⌝ }
-{
-    let mut n: u32 = 0;
-    let mut c: u32 = 0;
-    let mut m = mark;
-    let reason = loop {
-        let spent = budget <= n;
-        if spent {
-            break 1;
-        }
-        let halted = slots[codes::MODE] == codes::HALTED;
-        if halted {
-            break 2;
-        }
-        let stopped = slots[codes::MODE] == codes::STOPPED;
-        if stopped {
-            break 3;
-        }
-        let short = journal.len() - m < LONGEST_RECORD;
-        if short {
-            break 4;
-        }
-        let there = slots[codes::PC] == stop;
-        if there {
-            break 5;
-        }
-        let a = step_taken(slots, memory, 0, 0, journal, m, log);
-        m = a.mark;
-        n += 1;
-        c += a.clocks;
-    };
-    RunAnswer {
-        number: 0,
-        reason,
-        mark: m,
-        steps: n,
-        clocks: c,
-    }
-}
-
+// A run: its steps as where all records are kept, until room is short; from there on the oldest records are dropped.
 pub fn run(
     slots: &mut [u32; SLOTS],
     memory: &mut [u8],
@@ -194,13 +93,28 @@ pub fn run(
     journal: &mut [u8],
     mark: usize,
 ) -> RunAnswer
-    ensures { λ a. ⌜ RunPromise (now (slots .entry)) (now (memory .entry)) budget stop (now (journal .entry)) mark (now (slots .exit)) (now (memory .exit)) (now (journal .exit)) a ⌝ }
+    ensures { λ a. ⌜ RunPromise Dropping (now (slots .entry)) (now (memory .entry)) budget stop (now (journal .entry)) mark (now (slots .exit)) (now (memory .exit)) (now (journal .exit)) a ⌝ }
 {
     let number = calls::run_number(slots, memory, budget, journal, mark);
     let good = number == 0;
     if good {
         let mut log = [0u64; BYTE_LIMIT];
-        return running(slots, memory, budget, stop, journal, mark, &mut log);
+        let a = keeping::running(slots, memory, budget, stop, journal, mark, &mut log);
+        let full = (a.reason == 4) & (LONGEST_RECORD <= journal.len());
+        if full {
+            return full::running_full(
+                slots,
+                memory,
+                budget,
+                stop,
+                journal,
+                a.mark,
+                a.steps,
+                a.clocks,
+                &mut log,
+            );
+        }
+        return a;
     }
     RunAnswer {
         number,
@@ -208,6 +122,8 @@ pub fn run(
         mark,
         steps: 0,
         clocks: NO_CLOCKS,
+        moved: 0,
+        dropped: 0,
     }
 }
 

@@ -1,11 +1,11 @@
--- ibz_step: a block that does not fit, and a step of the slots that it holds.
+-- ibz_step: a block that does not fit, and a step of the slots that it holds, which may drop records.
 use Rattle.block_calls.proofs.CallLaws.{ibz-step-nine, ibz-step-held}
 use borrow.Author.Needs.{needs}
 use Rattle.ibezofanle.proofs.ibz_step.Statement.{statement}
 use Rattle.ibezofanle.proofs.ibz_step.Tie as tie
 
 returns : tie.Need-returns
-returns c = ibz-step-nine _ _ _ _ _ _ (c .if1 .taken)
+returns c = ibz-step-nine _ _ _ _ _ _ _ (c .if1 .taken)
 
 returns-2 : tie.Need-returns-2
 returns-2 c =
@@ -13,7 +13,7 @@ returns-2 c =
     let called = written .before .before .before .before .before .before .before in
     let read = called .before .before .before .before in
     let fits = read .before .before .if1 .left in
-    ibz-step-held _ _ _ _ _ _ fits _ _ _ _ _ (read .slots-in .ensures) (called .step .ensures) _ (written .put-block .ensures)
+    ibz-step-held _ _ _ _ _ _ _ fits _ _ _ _ _ (read .slots-in .ensures) (called .step .ensures) _ (written .put-block .ensures)
 
 pub ibz-step-spec : {M : Type 1} → statement M
 ibz-step-spec =

@@ -1,9 +1,9 @@
 use denote.Ref.{now}
-use Rattle.machine.proofs.CallLaws.{valid-lent, log-ready, log-done, record-fits, taken}
+use Rattle.keeping.proofs.CallLaws.{valid-lent, log-ready, log-done, record-fits, taken}
 use Rattle.calls.proofs.ValidLaws.{Valid}
 use borrow.Author.Needs.{needs}
-use Rattle.machine.proofs.step_taken.Statement.{statement}
-use Rattle.machine.proofs.step_taken.Tie as tie
+use Rattle.keeping.proofs.step_taken.Statement.{statement}
+use Rattle.keeping.proofs.step_taken.Tie as tie
 
 -- what is known after the step of what was lent
 module _ (o : tie.After-one-step) where

@@ -1,7 +1,7 @@
 use native.Mathlib.Omega.{arith}
 use borrow.Author.Needs.{needs}
-use Rattle.machine.proofs.words.Statement.{statement}
-use Rattle.machine.proofs.words.Tie as tie
+use Rattle.keeping.proofs.words.Statement.{statement}
+use Rattle.keeping.proofs.words.Tie as tie
 
 pub words-spec : {M : Type 1} → statement M
 words-spec =

@@ -1,7 +1,7 @@
 use native.Mathlib.Omega.{arith}
 use borrow.Author.Needs.{needs}
-use Rattle.machine.proofs.bytes.Statement.{statement}
-use Rattle.machine.proofs.bytes.Tie as tie
+use Rattle.keeping.proofs.bytes.Statement.{statement}
+use Rattle.keeping.proofs.bytes.Tie as tie
 
 pub bytes-spec : {M : Type 1} → statement M
 bytes-spec =

@@ -1,11 +1,11 @@
 use Prim.Native.Nat.{_-_}
 use native.Mathlib.Omega.{arith}
 use borrow.Author.Tests.{leb-false}
-use Rattle.machine.proofs.LoopLaws.{Going, going-start, going-again, going-requires, going-sum}
-use Rattle.machine.proofs.LoopLaws.{going-spent, going-halted, going-stopped, going-full, going-there}
+use Rattle.keeping.proofs.LoopLaws.{Going, going-start, going-again, going-requires, going-sum}
+use Rattle.keeping.proofs.LoopLaws.{going-spent, going-halted, going-stopped, going-full, going-there}
 use borrow.Author.Needs.{needs}
-use Rattle.machine.proofs.running.Statement.{statement}
-use Rattle.machine.proofs.running.Tie as tie
+use Rattle.keeping.proofs.running.Statement.{statement}
+use Rattle.keeping.proofs.running.Tie as tie
 
 abbrev Inv-loop : tie.InvT-loop
 Inv-loop slots₀ memory₀ budget stop journal₀ mark log₀ n₀ c₀ m₀ slots memory journal log n c m =
