@@ -4,12 +4,25 @@
  *
  *   block    80 bytes: the processor's state, twenty slots of four bytes, high byte first (enum ibz_slot)
  *   memory   the 68000's memory, from address 0; its length is even, from 1,024 to 16,777,216
- *   journal  bytes for the records by which steps are taken back; a step wants 536 of them free
+ *   journal  bytes for the records by which steps are taken back, the oldest first; a step wants 536 of them free
  *   mark     how many bytes of the journal are in use. 0 at first; then always the mark that the last call returned
  *
  * ibz_reset sets the state as the processor's reset does. ibz_step does one instruction, or takes one interrupt, and writes at the
  * mark how to take it back. ibz_run does many. ibz_undo takes the last step back: block and memory are then, byte for byte, what
- * they were before it. After any mix of these, block, memory and mark are what the steps that were not undone would have left.
+ * they were before it. After any mix of these, block and memory are what the steps that were not undone would have left.
+ *
+ * Where fewer than 536 bytes of journal are free after the mark, a step or a run goes by one of two manners:
+ *
+ *   ibz_step, ibz_run                    drop the fewest oldest records that make 536 bytes free, and move the rest down to place 0. No
+ *                                        other byte of the journal changes. The answer has how many bytes were `moved` and how many
+ *                                        records were `dropped`; what is dropped can not be taken back any more
+ *   ibz_step_keeping, ibz_run_keeping    keep every record, and take no step (IBZ_JOURNAL_FULL, IBZ_REASON_JOURNAL)
+ *
+ * With room enough the two do the same, and they may be mixed on one journal. The mark is always the joint length of the records that
+ * are left. Only records on the way back to place 0 that are well shaped, all of them, are dropped or moved (IBZ_BAD_RECORD,
+ * IBZ_REASON_RECORD); a journal with room enough is not judged. To find where records begin, an ibz_step on a full journal reads all of
+ * them back, at every step: some 250 instructions a record, or 25 ns. An ibz_run does so once, where it first finds the journal full, and
+ * from then on reads only those that are about to be dropped: where a journal is long and full, prefer runs.
  *
  * Every answer begins with `number`: 0 if the call was done, else why it was refused (enum ibz_number). A refused step, run or undo
  * leaves block, memory, journal and mark as they were. A refused reset sets the halted state, 2 in slot 19 and 0 in every other; but
@@ -25,7 +38,8 @@
  *   - nobody else uses them during the call. The library itself keeps nothing between calls and has no variables: several threads
  *     may call it at the same time, each on a machine of its own.
  *
- * It needs no start, allocates nothing, takes some 2 KiB of stack, and calls nothing from outside but memset.
+ * It needs no start, allocates nothing, takes some 2 KiB of stack, an ibz_run on a full journal 15 KiB, and calls nothing from outside
+ * but memset.
  *
  * Later versions will add members to the end of answers, and arguments to calls: compile host and library from one version,
  * IBZ_VERSION. */
@@ -39,7 +53,7 @@
 extern "C" {
 #endif
 
-#define IBZ_VERSION 2
+#define IBZ_VERSION 3
 
 /* ---- sizes and limits */
 
@@ -80,10 +94,14 @@ enum ibz_number {
   IBZ_BAD_STATE = 2,    /*       step run undo   SR has a bit outside 0xA71F, or mode is above 2; each is judged in all its 32 bits */
   IBZ_BAD_REQUEST = 3,  /*       step run        level is above 7 (step); budget is above 1,000,000 (run) */
   IBZ_BAD_MARK = 4,     /*       step run undo   mark is greater than the journal's length */
-  IBZ_JOURNAL_FULL = 5, /*       step            fewer than 536 bytes of journal after the mark */
+  IBZ_JOURNAL_FULL = 5, /*       step            the journal is shorter than 536 bytes (ibz_step); fewer than 536 bytes of it are after
+                         *                       the mark (ibz_step_keeping) */
   IBZ_IS_HALTED = 6,    /*       step            mode is 2 */
   IBZ_NO_RECORD = 7,    /*                undo   mark is 0: nothing is left to take back */
-  IBZ_BAD_RECORD = 8,   /*                undo   what stands below the mark is no well-formed record for this state and memory */
+  IBZ_BAD_RECORD = 8,   /*                undo   what stands below the mark is no well-formed record for this state and memory
+                         *       step            fewer than 536 bytes of journal are after the mark, and below it, on the way back to
+                         *                       place 0, stands no well-shaped record for this length of memory: one that is well formed
+                         *                       but for the comparison with what state and memory hold (ibz_step alone) */
   IBZ_NO_BLOCK = 9      /* reset step run undo   the block is not 80 bytes long; nothing else is looked at */
 };
 
@@ -93,7 +111,8 @@ enum ibz_reason {
   IBZ_REASON_BUDGET = 1,  /* as many steps were done as were asked for */
   IBZ_REASON_HALTED = 2,
   IBZ_REASON_STOPPED = 3, /* the machine waits for an interrupt */
-  IBZ_REASON_JOURNAL = 4, /* fewer than 536 bytes of journal are free */
+  IBZ_REASON_JOURNAL = 4, /* the journal has no room: as IBZ_JOURNAL_FULL, in either manner */
+  IBZ_REASON_RECORD = 6,  /* records would have to be dropped, and one is not well shaped: as IBZ_BAD_RECORD of ibz_step (ibz_run alone) */
   IBZ_REASON_ADDRESS = 5  /* PC is the stop address, in all 32 bits */
 };
 
@@ -127,14 +146,18 @@ struct ibz_step_answer {
   uint32_t event;  /* what happened; 0 if refused */
   size_t mark;     /* the next call's mark */
   uint32_t clocks; /* clocks of the step; 0 if refused */
+  size_t moved;    /* bytes of the journal that were moved down to make room; 0 if refused, and always 0 of ibz_step_keeping */
+  size_t dropped;  /* records that were dropped to make room; likewise. Where all are dropped, moved is 0 */
 };
 
 struct ibz_run_answer {
-  uint32_t number; /* enum ibz_number */
-  uint32_t reason; /* enum ibz_reason: why it ended */
-  size_t mark;     /* the next call's mark */
-  uint32_t steps;  /* how many steps were done: so many undos take the run back */
-  uint32_t clocks; /* clocks of these steps together; 0 if refused */
+  uint32_t number;  /* enum ibz_number */
+  uint32_t reason;  /* enum ibz_reason: why it ended */
+  size_t mark;      /* the next call's mark */
+  uint32_t steps;   /* how many steps were done: so many undos take the run back, as far as its records were not dropped */
+  uint32_t clocks;  /* clocks of these steps together; 0 if refused */
+  uint64_t moved;   /* bytes that these steps moved together, or UINT64_MAX where that is more; as in a step's answer */
+  uint64_t dropped; /* records that they dropped together; as in a step's answer */
 };
 
 struct ibz_undo_answer {
@@ -149,16 +172,26 @@ struct ibz_undo_answer {
 struct ibz_reset_answer ibz_reset(uint8_t *block, size_t block_length, const uint8_t *memory, size_t memory_length);
 
 /* One step. `level` asks for an interrupt, 1 to 7, by `vector`; it is taken if it is 7 or above the mask in SR. At level 0, or if it
- * is not taken, one instruction is done; a stopped machine stays as it is, and that is a step too. Refused by 1 to 6, 9. */
+ * is not taken, one instruction is done; a stopped machine stays as it is, and that is a step too. Where the journal is full, the oldest
+ * records are dropped first. Refused by 1 to 6, 8, 9. */
 struct ibz_step_answer ibz_step(uint8_t *block, size_t block_length, uint8_t *memory, size_t memory_length, uint32_t level,
                                 uint8_t vector, uint8_t *journal, size_t journal_length, size_t mark);
 
-/* Steps with level 0, at most `budget` of them, until a reason holds (enum ibz_reason). To stop at no address, give one
+/* The same step, but every record is kept: where the journal is full it is refused by 5. Refused by 1 to 6, 9. */
+struct ibz_step_answer ibz_step_keeping(uint8_t *block, size_t block_length, uint8_t *memory, size_t memory_length, uint32_t level,
+                                        uint8_t vector, uint8_t *journal, size_t journal_length, size_t mark);
+
+/* Steps of ibz_step with level 0, at most `budget` of them, until a reason holds (enum ibz_reason). To stop at no address, give one
  * that the program never reaches, as 0xFFFFFFFF. Refused by 1 to 4, 9. */
 struct ibz_run_answer ibz_run(uint8_t *block, size_t block_length, uint8_t *memory, size_t memory_length, uint32_t budget,
                               uint32_t stop, uint8_t *journal, size_t journal_length, size_t mark);
 
-/* Takes the last step back, by the record that ends at the mark. The journal is only read. Refused by 1, 2, 4, 7, 8, 9. */
+/* The same of ibz_step_keeping: where the journal is full the run ends, by IBZ_REASON_JOURNAL. Refused by 1 to 4, 9. */
+struct ibz_run_answer ibz_run_keeping(uint8_t *block, size_t block_length, uint8_t *memory, size_t memory_length, uint32_t budget,
+                                      uint32_t stop, uint8_t *journal, size_t journal_length, size_t mark);
+
+/* Takes the last step back, by the record that ends at the mark, whichever call wrote it. The journal is only read. Refused by 1, 2, 4,
+ * 7, 8, 9: 7 also where steps were done but their records are dropped. */
 struct ibz_undo_answer ibz_undo(uint8_t *block, size_t block_length, uint8_t *memory, size_t memory_length,
                                 const uint8_t *journal, size_t journal_length, size_t mark);
 
@@ -214,10 +247,10 @@ static inline const char *ibz_number_text(uint32_t number) {
   case IBZ_BAD_STATE: return "SR or mode has a value that it can not have";
   case IBZ_BAD_REQUEST: return "the level or the budget is too high";
   case IBZ_BAD_MARK: return "the mark is beyond the journal";
-  case IBZ_JOURNAL_FULL: return "the journal is full";
+  case IBZ_JOURNAL_FULL: return "the journal has no room for a record";
   case IBZ_IS_HALTED: return "the machine is halted";
   case IBZ_NO_RECORD: return "nothing is left to take back";
-  case IBZ_BAD_RECORD: return "the journal has no good record below the mark";
+  case IBZ_BAD_RECORD: return "a record below the mark is not a good one";
   case IBZ_NO_BLOCK: return "the block is not 80 bytes long";
   default: return "an unknown refusal";
   }
@@ -230,7 +263,8 @@ static inline const char *ibz_reason_text(uint32_t reason) {
   case IBZ_REASON_BUDGET: return "the budget is spent";
   case IBZ_REASON_HALTED: return "the machine is halted";
   case IBZ_REASON_STOPPED: return "the machine waits for an interrupt";
-  case IBZ_REASON_JOURNAL: return "the journal is full";
+  case IBZ_REASON_JOURNAL: return "the journal has no room for a record";
+  case IBZ_REASON_RECORD: return "a record below the mark is not a good one";
   case IBZ_REASON_ADDRESS: return "PC is the stop address";
   default: return "an unknown reason";
   }

@@ -1,9 +1,10 @@
 /* box.c - a small host to start from: loads an image, steps, runs, shows the machine, and goes back.
  *
- *   box [-m BYTES] [-j BYTES] [-a ADDRESS] IMAGE
+ *   box [-d] [-m BYTES] [-j BYTES] [-a ADDRESS] IMAGE
  *
  * IMAGE is raw bytes; they go to ADDRESS (0) of a memory of BYTES (65,536), and the machine is reset: SSP is the long at address 0,
- * PC the long at 4. -j says how many bytes of journal there are (1,048,576). Then it reads commands, one to a line; `help` lists them. */
+ * PC the long at 4. -j says how many bytes of journal there are (1,048,576). It keeps every record, and does no step where the journal is
+ * full; with -d it drops the oldest instead. Then it reads commands, one to a line; `help` lists them. */
 #include "ibezofanle.h"
 #include <stdio.h>
 #include <stdlib.h>
@@ -11,17 +12,18 @@
 
 static uint8_t block[IBZ_BLOCK_LENGTH], *memory, *journal;
 static size_t memory_length = 65536, journal_length = 1048576, mark;
-static unsigned long standing; /* steps that can be taken back */
+static int drops;                    /* -d */
+static unsigned long standing, gone; /* steps that stand, and of these the ones that can not be taken back any more */
 
-/* The clocks since the reset; and, for going back, what they were where steps or runs ended: the first of these is where the way back
- * ends. A record has two bytes or more, so there are never more than half the journal's. */
+/* The clocks since the reset; and, for going back, what they were where steps or runs ended: the last of these is where the machine is.
+ * A record has two bytes or more, so never more are wanted than half the journal's and two. */
 struct place {
   unsigned long standing;
   unsigned long long clocks;
 };
 static unsigned long long clocks;
 static struct place *places;
-static size_t last;
+static size_t last, most_places;
 
 static const char help[] =
     "step [N]              do N steps (1), and show each\n"
@@ -64,7 +66,7 @@ static void show_registers(void) {
   printf("PC %08X  ", (unsigned)ibz_get(block, IBZ_PC));
   printf("USP %08X  SSP %08X\n", (unsigned)ibz_get(block, IBZ_USP), (unsigned)ibz_get(block, IBZ_SSP));
   show_status();
-  printf("  %llu clocks\n%lu steps can be taken back; %zu of %zu journal bytes used\n", clocks, standing, mark, journal_length);
+  printf("  %llu clocks\n%lu steps can be taken back; %zu of %zu journal bytes used\n", clocks, standing - gone, mark, journal_length);
 }
 
 static void show_memory(unsigned long at, unsigned long n) {
@@ -99,8 +101,9 @@ static void show_refusal(uint32_t number) {
 /* Keeps the machine as it is, and gives up the way back. */
 static void forget(void) {
   mark = 0;
-  standing = 0;
+  standing = gone = 0;
   last = 0;
+  places[0].standing = 0;
   places[0].clocks = clocks;
   show_place(clocks);
 }
@@ -113,11 +116,19 @@ static void reset(void) {
 }
 
 /* After steps that were done. */
-static void noted(size_t next, uint32_t steps, uint32_t more) {
+static void noted(size_t next, uint32_t steps, uint32_t more, unsigned long long dropped, unsigned long long moved) {
   mark = next;
   standing += steps;
+  gone += (unsigned long)dropped;
   clocks += more;
+  if (dropped > 0) printf("          %llu records dropped, %llu bytes moved\n", dropped, moved);
   if (steps == 0) return;
+  if (last + 1 == most_places) { /* the places that no way leads back to make room */
+    size_t first = 0;
+    while (places[first].standing < gone) first++;
+    for (size_t i = first; i <= last; i++) places[i - first] = places[i];
+    last -= first;
+  }
   places[++last].standing = standing;
   places[last].clocks = clocks;
 }
@@ -125,12 +136,14 @@ static void noted(size_t next, uint32_t steps, uint32_t more) {
 static int step(uint32_t level, uint8_t vector) {
   const unsigned long long before = clocks;
   const int interrupt = level == IBZ_LEVEL_MOST || level > (ibz_get(block, IBZ_SR) >> 8 & 7u);
-  const struct ibz_step_answer a = ibz_step(block, sizeof block, memory, memory_length, level, vector, journal, journal_length, mark);
+  const struct ibz_step_answer a =
+      drops ? ibz_step(block, sizeof block, memory, memory_length, level, vector, journal, journal_length, mark)
+            : ibz_step_keeping(block, sizeof block, memory, memory_length, level, vector, journal, journal_length, mark);
   if (a.number != IBZ_DONE) {
     show_refusal(a.number);
     return 0;
   }
-  noted(a.mark, 1, a.clocks);
+  noted(a.mark, 1, a.clocks, a.dropped, a.moved);
   if (a.event == IBZ_EVENT_HALT) puts("          halted");
   else if (a.event != IBZ_EVENT_NONE) printf("          exception: vector %u\n", (unsigned)a.event - 1u);
   if (!interrupt && (a.event == 3 || a.event == 4)) show_fault();
@@ -145,12 +158,13 @@ static void run(unsigned long n, uint32_t stop) {
   unsigned long done = 0;
   do {
     const uint32_t budget = n - done < IBZ_BUDGET_MOST ? (uint32_t)(n - done) : IBZ_BUDGET_MOST;
-    a = ibz_run(block, sizeof block, memory, memory_length, budget, stop, journal, journal_length, mark);
+    a = drops ? ibz_run(block, sizeof block, memory, memory_length, budget, stop, journal, journal_length, mark)
+              : ibz_run_keeping(block, sizeof block, memory, memory_length, budget, stop, journal, journal_length, mark);
     if (a.number != IBZ_DONE) {
       show_refusal(a.number);
       return;
     }
-    noted(a.mark, a.steps, a.clocks);
+    noted(a.mark, a.steps, a.clocks, a.dropped, a.moved);
     done += a.steps;
   } while (a.reason == IBZ_REASON_BUDGET && done < n);
   printf("          %lu steps: %s\n", done, ibz_reason_text(a.reason));
@@ -165,19 +179,21 @@ static int undo(void) {
   return a.number == IBZ_DONE;
 }
 
-/* An undo tells no clocks. They are those of the last place before, and where that is within a run, of the steps of the run up to here:
- * they are taken back too, and done again. */
+/* An undo tells no clocks. They are those of the first place that is not before, less, where that is the end of a run, those of the steps
+ * up to there: these are done again, which the journal has room for, and taken back. */
 static void back(unsigned long n) {
   for (; n > 0 && undo(); n--) {}
-  while (places[last].standing > standing) last--;
+  while (last > 0 && places[last - 1].standing >= standing) last--;
   clocks = places[last].clocks;
-  for (n = 0; standing > places[last].standing && undo(); n++) {}
-  for (; n > 0; n--) {
-    const struct ibz_step_answer a = ibz_step(block, sizeof block, memory, memory_length, 0, 0, journal, journal_length, mark);
+  for (n = 0; standing < places[last].standing; n++) {
+    const struct ibz_step_answer a = ibz_step_keeping(block, sizeof block, memory, memory_length, 0, 0, journal, journal_length, mark);
     mark = a.mark;
     standing++;
-    clocks += a.clocks;
+    clocks -= a.clocks;
   }
+  for (; n > 0; n--) undo();
+  places[last].standing = standing;
+  places[last].clocks = clocks;
   show_place(clocks);
 }
 
@@ -213,7 +229,7 @@ static int asked(char *line) {
   const int good = n <= 3 && has_a == (n > 1) && has_b == (n > 2); /* every further word is a number */
   if (strcmp(w[0], "quit") == 0) return 0;
   if (strcmp(w[0], "help") == 0) printf("%s", help);
-  else if (strcmp(w[0], "back") == 0 && n == 2 && strcmp(w[1], "all") == 0) back(standing);
+  else if (strcmp(w[0], "back") == 0 && n == 2 && strcmp(w[1], "all") == 0) back(standing - gone);
   else if (!good) puts("that is no number: `help` lists what can be asked");
   else if (strcmp(w[0], "step") == 0 && n <= 2)
     for (unsigned long k = has_a ? a : 1; k > 0 && step(0, 0); k--) {}
@@ -229,28 +245,35 @@ static int asked(char *line) {
 }
 
 static int usage(void) {
-  fprintf(stderr, "usage: box [-m BYTES] [-j BYTES] [-a ADDRESS] IMAGE\n"
-                  "BYTES of memory: an even number, 1024 to 16777216; of journal: 536 or more\n");
+  fprintf(stderr, "usage: box [-d] [-m BYTES] [-j BYTES] [-a ADDRESS] IMAGE\n"
+                  "BYTES of memory: an even number, 1024 to 16777216; of journal: 536 or more\n"
+                  "-d: where the journal is full, its oldest records are dropped\n");
   return 2;
 }
 
 int main(int argc, char **argv) {
   unsigned long address = 0;
   int i = 1;
-  for (; i + 1 < argc && argv[i][0] == '-'; i += 2) {
+  for (; i + 1 < argc && argv[i][0] == '-'; i++) {
     unsigned long value;
+    if (strcmp(argv[i], "-d") == 0) {
+      drops = 1;
+      continue;
+    }
     if (!number(argv[i + 1], &value)) return usage();
     if (strcmp(argv[i], "-m") == 0) memory_length = value;
     else if (strcmp(argv[i], "-j") == 0) journal_length = value;
     else if (strcmp(argv[i], "-a") == 0) address = value;
     else return usage();
+    i++;
   }
   if (i + 1 != argc || memory_length < IBZ_MEMORY_LEAST || memory_length > IBZ_MEMORY_MOST || memory_length % 2 != 0
       || journal_length < IBZ_RECORD_MOST || address > memory_length)
     return usage();
   memory = (uint8_t *)calloc(memory_length, 1);
   journal = (uint8_t *)calloc(journal_length, 1);
-  places = (struct place *)calloc(journal_length / 2 + 1, sizeof *places);
+  most_places = journal_length / 2 + 2;
+  places = (struct place *)calloc(most_places, sizeof *places);
   FILE *f = fopen(argv[i], "rb");
   if (memory == NULL || journal == NULL || places == NULL || f == NULL) {
     fprintf(stderr, f == NULL ? "box: can't read %s\n" : "box: no memory for %s\n", argv[i]);

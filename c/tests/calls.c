@@ -1,5 +1,5 @@
 /* calls.c - the calls by hand: every refusal by itself and in the order of the table, 01's examples, the way back on other blocks,
- * and what the header declares. */
+ * and what the header declares. Steps and runs keep all records, as 01 has them; dropping.c tries those that drop. */
 #include "tests.h"
 
 enum { MEMORY = 65536, JOURNAL = 4096, BLOCK = IBZ_BLOCK_LENGTH };
@@ -35,18 +35,18 @@ static void fresh(unsigned word) {
 }
 
 static struct ibz_step_answer step(uint32_t level, uint8_t vector, size_t mark) {
-  return ibz_step(block, BLOCK, memory, MEMORY, level, vector, journal, JOURNAL, mark);
+  return ibz_step_keeping(block, BLOCK, memory, MEMORY, level, vector, journal, JOURNAL, mark);
 }
 
 static struct ibz_undo_answer undo(size_t mark) { return ibz_undo(block, BLOCK, memory, MEMORY, journal, JOURNAL, mark); }
 
 /* A refusal: its number, the mark as given, 0 for the rest, and no byte altered. */
 static int step_refused(struct ibz_step_answer a, uint32_t number, size_t mark) {
-  return a.number == number && a.event == 0 && a.mark == mark && a.clocks == 0 && kept();
+  return a.number == number && a.event == 0 && a.mark == mark && a.clocks == 0 && a.moved == 0 && a.dropped == 0 && kept();
 }
 
 static int run_refused(struct ibz_run_answer a, uint32_t number, size_t mark) {
-  return a.number == number && a.reason == 0 && a.steps == 0 && a.mark == mark && a.clocks == 0 && kept();
+  return a.number == number && a.reason == 0 && a.steps == 0 && a.mark == mark && a.clocks == 0 && a.moved == 0 && a.dropped == 0 && kept();
 }
 
 static int undo_refused(struct ibz_undo_answer a, uint32_t number, size_t mark) {
@@ -86,15 +86,26 @@ static void orders(void) {
     if ((set & ~0x27Eu) == 0) { /* step: 9, 1 to 6; a mark beyond the journal leaves less than 536 too */
       const size_t length = set >> 5 & 1u ? 600 : JOURNAL, mark = set >> 4 & 1u ? length + 1 : set >> 5 & 1u ? 65 : 64;
       const uint32_t level = set >> 3 & 1u ? 8 : 0;
-      const struct ibz_step_answer a = ibz_step(block, block_length, memory, memory_length, level, 0, journal, length, mark);
+      const struct ibz_step_answer a = ibz_step_keeping(block, block_length, memory, memory_length, level, 0, journal, length, mark);
       EXPECT(n == 0 ? a.number == 0 : step_refused(a, n, mark));
+      set_up(set);
+    }
+    if ((set & ~0x37Eu) == 0) { /* step that drops: 9, 1 to 6, 8; a journal with room is not judged */
+      const size_t length = set >> 5 & 1u ? 535 : 600, mark = set >> 4 & 1u ? length + 1 : set >> 8 & 1u ? 65 : 64;
+      const uint32_t level = set >> 3 & 1u ? 8 : 0;
+      const struct ibz_step_answer a = ibz_step(block, block_length, memory, memory_length, level, 0, journal, length, mark);
+      EXPECT(n == 0 ? a.number == 0 && a.moved == 0 && a.dropped == 0 : step_refused(a, n, mark));
       set_up(set);
     }
     if ((set & ~0x21Eu) == 0) { /* run: 9, 1 to 4 */
       const size_t mark = set >> 4 & 1u ? JOURNAL + 1 : 0;
       const struct ibz_run_answer a =
-          ibz_run(block, block_length, memory, memory_length, set >> 3 & 1u ? 1000001 : 1, 0, journal, JOURNAL, mark);
+          ibz_run_keeping(block, block_length, memory, memory_length, set >> 3 & 1u ? 1000001 : 1, 0, journal, JOURNAL, mark);
       EXPECT(n == 0 ? a.number == 0 && a.reason != 0 : run_refused(a, n, mark));
+      set_up(set);
+      const struct ibz_run_answer b =
+          ibz_run(block, block_length, memory, memory_length, set >> 3 & 1u ? 1000001 : 1, 0, journal, JOURNAL, mark);
+      EXPECT(n == 0 ? b.number == 0 && b.reason != 0 : run_refused(b, n, mark));
       set_up(set);
     }
     if ((set & ~0x396u) == 0 && (set & 0x90u) != 0x90u) { /* undo: 9, 1, 2, 4, 7, 8; a mark of 0 is not beyond a journal */
@@ -112,20 +123,26 @@ static void blocks(void) {
   fresh(0x7001);
   for (unsigned i = 0; i < sizeof lengths / sizeof *lengths; i++) {
     EXPECT(ibz_reset(block, lengths[i], memory, MEMORY).number == IBZ_NO_BLOCK && kept());
-    EXPECT(step_refused(ibz_step(block, lengths[i], memory, MEMORY, 0, 0, journal, JOURNAL, 0), IBZ_NO_BLOCK, 0));
-    EXPECT(run_refused(ibz_run(block, lengths[i], memory, MEMORY, 1, 0, journal, JOURNAL, 0), IBZ_NO_BLOCK, 0));
+    EXPECT(step_refused(ibz_step_keeping(block, lengths[i], memory, MEMORY, 0, 0, journal, JOURNAL, 0), IBZ_NO_BLOCK, 0));
+    EXPECT(run_refused(ibz_run_keeping(block, lengths[i], memory, MEMORY, 1, 0, journal, JOURNAL, 0), IBZ_NO_BLOCK, 0));
+    EXPECT(step_refused(ibz_step(block, lengths[i], memory, MEMORY, 0, 0, journal, JOURNAL, JOURNAL), IBZ_NO_BLOCK, JOURNAL));
+    EXPECT(run_refused(ibz_run(block, lengths[i], memory, MEMORY, 1, 0, journal, JOURNAL, JOURNAL), IBZ_NO_BLOCK, JOURNAL));
     EXPECT(undo_refused(ibz_undo(block, lengths[i], memory, MEMORY, journal, JOURNAL, 2), IBZ_NO_BLOCK, 2));
   }
   /* nothing else is looked at, and a pointer with length 0 may be NULL */
   EXPECT(ibz_reset(NULL, 0, NULL, 0).number == IBZ_NO_BLOCK);
+  EXPECT(step_refused(ibz_step_keeping(NULL, 0, NULL, 0, 9, 0, NULL, 0, 7), IBZ_NO_BLOCK, 7));
+  EXPECT(run_refused(ibz_run_keeping(NULL, 0, NULL, 0, 2000000, 0, NULL, 0, 7), IBZ_NO_BLOCK, 7));
   EXPECT(step_refused(ibz_step(NULL, 0, NULL, 0, 9, 0, NULL, 0, 7), IBZ_NO_BLOCK, 7));
   EXPECT(run_refused(ibz_run(NULL, 0, NULL, 0, 2000000, 0, NULL, 0, 7), IBZ_NO_BLOCK, 7));
   EXPECT(undo_refused(ibz_undo(NULL, 0, NULL, 0, NULL, 0, 7), IBZ_NO_BLOCK, 7));
-  EXPECT(step_refused(ibz_step(block, BLOCK, NULL, 0, 0, 0, journal, JOURNAL, 0), IBZ_BAD_MEMORY, 0));
-  EXPECT(run_refused(ibz_run(block, BLOCK, NULL, 0, 1, 0, journal, JOURNAL, 0), IBZ_BAD_MEMORY, 0));
+  EXPECT(step_refused(ibz_step_keeping(block, BLOCK, NULL, 0, 0, 0, journal, JOURNAL, 0), IBZ_BAD_MEMORY, 0));
+  EXPECT(run_refused(ibz_run_keeping(block, BLOCK, NULL, 0, 1, 0, journal, JOURNAL, 0), IBZ_BAD_MEMORY, 0));
   EXPECT(undo_refused(ibz_undo(block, BLOCK, NULL, 0, journal, JOURNAL, 2), IBZ_BAD_MEMORY, 2));
-  EXPECT(step_refused(ibz_step(block, BLOCK, memory, MEMORY, 0, 0, NULL, 0, 0), IBZ_JOURNAL_FULL, 0));
+  EXPECT(step_refused(ibz_step_keeping(block, BLOCK, memory, MEMORY, 0, 0, NULL, 0, 0), IBZ_JOURNAL_FULL, 0));
   EXPECT(undo_refused(ibz_undo(block, BLOCK, memory, MEMORY, NULL, 0, 0), IBZ_NO_RECORD, 0));
+  EXPECT(ibz_run_keeping(block, BLOCK, memory, MEMORY, 1, 0, NULL, 0, 0).reason == IBZ_REASON_JOURNAL && kept());
+  EXPECT(step_refused(ibz_step(block, BLOCK, memory, MEMORY, 0, 0, NULL, 0, 0), IBZ_JOURNAL_FULL, 0));
   EXPECT(ibz_run(block, BLOCK, memory, MEMORY, 1, 0, NULL, 0, 0).reason == IBZ_REASON_JOURNAL && kept());
 }
 
@@ -137,7 +154,7 @@ static void memories(void) {
   for (unsigned i = 0; i < sizeof cases / sizeof *cases; i++) {
     fresh(0x7001);
     large[0x200] = 0x70, large[0x201] = 1;
-    const struct ibz_step_answer a = ibz_step(block, BLOCK, large, cases[i].length, 0, 0, journal, JOURNAL, 0);
+    const struct ibz_step_answer a = ibz_step_keeping(block, BLOCK, large, cases[i].length, 0, 0, journal, JOURNAL, 0);
     EXPECT(cases[i].number == 0 ? a.number == 0 && ibz_get(block, IBZ_D0) == 1 : step_refused(a, 1, 0));
     const uint32_t r = ibz_reset(block, BLOCK, large, cases[i].length).number;
     EXPECT(r == cases[i].number && ibz_get(block, IBZ_MODE) == (r == 0 ? 0u : 2u));
@@ -157,7 +174,7 @@ static void states(void) {
     ibz_set(block, IBZ_MODE, modes[i]);
     keep();
     EXPECT(step_refused(step(0, 0, 0), IBZ_BAD_STATE, 0));
-    EXPECT(run_refused(ibz_run(block, BLOCK, memory, MEMORY, 1, 0, journal, JOURNAL, 0), IBZ_BAD_STATE, 0));
+    EXPECT(run_refused(ibz_run_keeping(block, BLOCK, memory, MEMORY, 1, 0, journal, JOURNAL, 0), IBZ_BAD_STATE, 0));
     EXPECT(undo_refused(undo(2), IBZ_BAD_STATE, 2));
   }
 }
@@ -168,24 +185,24 @@ static void requests(void) {
   fresh(0x60FE);
   for (unsigned i = 0; i < sizeof levels / sizeof *levels; i++) EXPECT(step_refused(step(levels[i], 0, 0), IBZ_BAD_REQUEST, 0));
   for (unsigned i = 0; i < sizeof budgets / sizeof *budgets; i++)
-    EXPECT(run_refused(ibz_run(block, BLOCK, memory, MEMORY, budgets[i], 0, journal, JOURNAL, 0), IBZ_BAD_REQUEST, 0));
+    EXPECT(run_refused(ibz_run_keeping(block, BLOCK, memory, MEMORY, budgets[i], 0, journal, JOURNAL, 0), IBZ_BAD_REQUEST, 0));
   EXPECT(step(7, 0, 0).number == 0);
   fresh(0x60FE);
-  EXPECT(ibz_run(block, BLOCK, memory, MEMORY, IBZ_BUDGET_MOST, 0, journal, JOURNAL, 0).reason == IBZ_REASON_JOURNAL);
+  EXPECT(ibz_run_keeping(block, BLOCK, memory, MEMORY, IBZ_BUDGET_MOST, 0, journal, JOURNAL, 0).reason == IBZ_REASON_JOURNAL);
 }
 
 static void marks(void) {
   fresh(0x7001);
   EXPECT(step_refused(step(0, 0, JOURNAL + 1), IBZ_BAD_MARK, JOURNAL + 1));
   EXPECT(step_refused(step(0, 0, SIZE_MAX), IBZ_BAD_MARK, SIZE_MAX));
-  EXPECT(run_refused(ibz_run(block, BLOCK, memory, MEMORY, 1, 0, journal, JOURNAL, SIZE_MAX), IBZ_BAD_MARK, SIZE_MAX));
+  EXPECT(run_refused(ibz_run_keeping(block, BLOCK, memory, MEMORY, 1, 0, journal, JOURNAL, SIZE_MAX), IBZ_BAD_MARK, SIZE_MAX));
   EXPECT(undo_refused(undo(JOURNAL + 1), IBZ_BAD_MARK, JOURNAL + 1));
   EXPECT(undo_refused(undo(SIZE_MAX), IBZ_BAD_MARK, SIZE_MAX));
   EXPECT(undo_refused(undo(0), IBZ_NO_RECORD, 0));
   EXPECT(step_refused(step(0, 0, JOURNAL), IBZ_JOURNAL_FULL, JOURNAL));
   EXPECT(step_refused(step(0, 0, JOURNAL - 535), IBZ_JOURNAL_FULL, JOURNAL - 535));
-  EXPECT(step_refused(ibz_step(block, BLOCK, memory, MEMORY, 0, 0, journal, 535, 0), IBZ_JOURNAL_FULL, 0));
-  EXPECT(ibz_step(block, BLOCK, memory, MEMORY, 0, 0, journal, 536, 0).number == IBZ_DONE && ibz_get(block, IBZ_D0) == 1);
+  EXPECT(step_refused(ibz_step_keeping(block, BLOCK, memory, MEMORY, 0, 0, journal, 535, 0), IBZ_JOURNAL_FULL, 0));
+  EXPECT(ibz_step_keeping(block, BLOCK, memory, MEMORY, 0, 0, journal, 536, 0).number == IBZ_DONE && ibz_get(block, IBZ_D0) == 1);
   fresh(0x7001);
   EXPECT(step(0, 0, JOURNAL - 536).number == IBZ_DONE);
   fresh(0x7001);
@@ -245,11 +262,12 @@ static void resets(void) {
 
 /* Each step of these is a branch: 10 clocks. */
 static int ran(struct ibz_run_answer a, uint32_t reason, uint32_t steps, size_t mark) {
-  return a.number == 0 && a.reason == reason && a.steps == steps && a.mark == mark && a.clocks == 10 * steps;
+  return a.number == 0 && a.reason == reason && a.steps == steps && a.mark == mark && a.clocks == 10 * steps && a.moved == 0
+         && a.dropped == 0;
 }
 
 static struct ibz_run_answer run(uint32_t budget, uint32_t stop, size_t length, size_t mark) {
-  return ibz_run(block, BLOCK, memory, MEMORY, budget, stop, journal, length, mark);
+  return ibz_run_keeping(block, BLOCK, memory, MEMORY, budget, stop, journal, length, mark);
 }
 
 static void reasons(void) {
@@ -336,7 +354,7 @@ static size_t program(uint8_t *b, uint8_t *m, uint8_t *j) {
   memcpy(m + 0x400, code, sizeof code);
   m[33 * 4 + 2] = 5, m[0x500] = 0x4E, m[0x501] = 0x73; /* TRAP #1's handler returns */
   ibz_reset(b, BLOCK, m, MEMORY);
-  const struct ibz_run_answer a = ibz_run(b, BLOCK, m, MEMORY, 8, 0xFFFFFFFFu, j, JOURNAL, 0);
+  const struct ibz_run_answer a = ibz_run_keeping(b, BLOCK, m, MEMORY, 8, 0xFFFFFFFFu, j, JOURNAL, 0);
   EXPECT(a.number == 0 && a.steps == 8 && ibz_get(b, IBZ_PC) == 0x40A);
   EXPECT(a.clocks == 4 + 12 + 18 + 16 + 16 + 38 + 20 + 10); /* MOVEQ MOVE BSR CLR RTS TRAP RTE BRA */
   return a.mark;
@@ -386,12 +404,14 @@ static void way_back(void) {
 /* ---- what the header declares */
 
 static void layout(void) {
-  EXPECT(sizeof(struct ibz_reset_answer) == 4 && sizeof(struct ibz_step_answer) == 24);
-  EXPECT(sizeof(struct ibz_run_answer) == 24 && sizeof(struct ibz_undo_answer) == 16);
+  EXPECT(sizeof(struct ibz_reset_answer) == 4 && sizeof(struct ibz_step_answer) == 40);
+  EXPECT(sizeof(struct ibz_run_answer) == 40 && sizeof(struct ibz_undo_answer) == 16);
   EXPECT(offsetof(struct ibz_step_answer, event) == 4 && offsetof(struct ibz_run_answer, reason) == 4);
   EXPECT(offsetof(struct ibz_step_answer, mark) == 8 && offsetof(struct ibz_run_answer, mark) == 8);
   EXPECT(offsetof(struct ibz_undo_answer, mark) == 8 && offsetof(struct ibz_run_answer, steps) == 16);
-  EXPECT(offsetof(struct ibz_step_answer, clocks) == 16 && offsetof(struct ibz_run_answer, clocks) == 20 && IBZ_VERSION == 2);
+  EXPECT(offsetof(struct ibz_step_answer, clocks) == 16 && offsetof(struct ibz_run_answer, clocks) == 20 && IBZ_VERSION == 3);
+  EXPECT(offsetof(struct ibz_step_answer, moved) == 24 && offsetof(struct ibz_run_answer, moved) == 24);
+  EXPECT(offsetof(struct ibz_step_answer, dropped) == 32 && offsetof(struct ibz_run_answer, dropped) == 32);
   for (unsigned i = 0; i < IBZ_SLOTS; i++) {
     memset(block, 0x5A, sizeof block);
     ibz_set(block, i, 0x89ABCDEFu);
@@ -400,8 +420,8 @@ static void layout(void) {
   }
   for (uint32_t n = 0; n <= 9; n++) /* a text for each, and no two alike */
     for (uint32_t k = 0; k <= 10; k++) EXPECT((strcmp(ibz_number_text(n), ibz_number_text(k)) == 0) == (n == k));
-  for (uint32_t n = 0; n <= 5; n++)
-    for (uint32_t k = 0; k <= 6; k++) EXPECT((strcmp(ibz_reason_text(n), ibz_reason_text(k)) == 0) == (n == k));
+  for (uint32_t n = 0; n <= 6; n++)
+    for (uint32_t k = 0; k <= 7; k++) EXPECT((strcmp(ibz_reason_text(n), ibz_reason_text(k)) == 0) == (n == k));
 }
 
 int main(void) {

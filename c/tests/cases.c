@@ -81,7 +81,7 @@ static int change_slots(const char *p, uint8_t *b) {
 static const char *step_differs(char **f, const uint32_t *clocks, uint8_t *m, const uint8_t *w, size_t length, size_t next) {
   uint32_t level, vector;
   if (!whole(f[3], &level) || !whole(f[4], &vector) || vector > 255) return "no case";
-  const struct ibz_step_answer a = ibz_step(block, sizeof block, m, length, level, (uint8_t)vector, journal, JOURNAL, MARK);
+  const struct ibz_step_answer a = ibz_step_keeping(block, sizeof block, m, length, level, (uint8_t)vector, journal, JOURNAL, MARK);
   if (a.number != 0) return "the step is refused";
   if (memcmp(block, goal, sizeof goal) != 0) return "slots after the step";
   if (memcmp(m, w, length) != 0) return "memory after the step";

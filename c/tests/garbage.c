@@ -2,9 +2,10 @@
  * outside ends the test. Whatever was asked, each answer is held to this:
  *   a number that the call can not give is not given; it is 9 exactly if the block is not 80 bytes long;
  *   a refused call alters nothing, but a refused reset, which sets the fixed state;
- *   a step or a run alters the journal between the marks only, and leaves the mark within it; an undo and a reset do not alter it;
- *   a step that was done, and every step of a run that was done, is taken back by an undo, byte for byte;
- *   done again, by steps alone, they lead to the same, and take as many clocks: the step's own, or the run's.
+ *   a step or a run that drops no record alters the journal between the marks only, and leaves the mark within it; an undo and a reset do
+ *   not alter it; a step that drops some has moved what it says it moved, and alters nothing from its mark on;
+ *   a step that was done, and every step of a run that was done and dropped none, is taken back by an undo, byte for byte;
+ *   done again, by steps alone, they lead to the same, and take as many clocks, and move and drop as much: the step's own, or the run's.
  * Arguments: how many calls, and a seed. */
 #include "tests.h"
 
@@ -72,9 +73,20 @@ static int same_state(void) { return memcmp(block, old_block, block_length) == 0
 
 static int same_journal(size_t from, size_t to) { return memcmp(journal + from, old_journal + from, to - from) == 0; }
 
-/* `steps` undos from the mark lead back to what was kept, and to the mark of then; as many steps with the same request lead to what was
- * found, and to `next`. The clocks of these steps together. */
-static uint64_t there_and_back(uint32_t steps, size_t next, uint32_t level, uint8_t vector) {
+/* A step or a run, by its manner. */
+static struct ibz_step_answer step_by(int keeps, uint32_t level, uint8_t vector, size_t at) {
+  return keeps ? ibz_step_keeping(block, block_length, memory, memory_length, level, vector, journal, journal_length, at)
+               : ibz_step(block, block_length, memory, memory_length, level, vector, journal, journal_length, at);
+}
+
+static struct ibz_run_answer run_by(int keeps, uint32_t budget, uint32_t stop, size_t at) {
+  return keeps ? ibz_run_keeping(block, block_length, memory, memory_length, budget, stop, journal, journal_length, at)
+               : ibz_run(block, block_length, memory, memory_length, budget, stop, journal, journal_length, at);
+}
+
+/* `steps` undos from `next` lead back to what was kept, and to the mark `from`; as many steps with the same request lead to what was
+ * found, and to `next`: there is room for them. The clocks of these steps together. */
+static uint64_t there_and_back(uint32_t steps, size_t from, size_t next, uint32_t level, uint8_t vector) {
   static uint8_t now_block[IBZ_BLOCK_LENGTH], now_memory[LARGEST];
   memcpy(now_block, block, sizeof now_block), memcpy(now_memory, memory, memory_length);
   size_t at = next;
@@ -84,14 +96,31 @@ static uint64_t there_and_back(uint32_t steps, size_t next, uint32_t level, uint
     EXPECT(a.number == 0 && a.mark < at);
     at = a.mark;
   }
-  EXPECT(at == mark && same_state());
+  EXPECT(at == from && same_state());
   for (uint32_t i = 0; i < steps; i++) {
-    const struct ibz_step_answer a = ibz_step(block, block_length, memory, memory_length, level, vector, journal, journal_length, at);
-    EXPECT(a.number == 0 && a.mark > at && a.clocks <= IBZ_CLOCKS_MOST);
+    const struct ibz_step_answer a = step_by(i % 2 == 0, level, vector, at);
+    EXPECT(a.number == 0 && a.mark > at && a.clocks <= IBZ_CLOCKS_MOST && a.moved == 0 && a.dropped == 0);
     at = a.mark, clocks += a.clocks;
   }
   EXPECT(at == next && memcmp(block, now_block, sizeof now_block) == 0 && memcmp(memory, now_memory, memory_length) == 0);
   return clocks;
+}
+
+/* A run that may have dropped records: the same steps one by one, from what was kept, lead to the same, its journal too. */
+static void one_by_one(struct ibz_run_answer a) {
+  static uint8_t now_block[IBZ_BLOCK_LENGTH], now_memory[LARGEST], now_journal[LARGEST];
+  memcpy(now_block, block, sizeof now_block), memcpy(now_memory, memory, memory_length), memcpy(now_journal, journal, journal_length);
+  memcpy(block, old_block, block_length), memcpy(memory, old_memory, memory_length), memcpy(journal, old_journal, journal_length);
+  uint64_t clocks = 0, moved = 0, dropped = 0;
+  size_t at = mark;
+  for (uint32_t i = 0; i < a.steps; i++) {
+    const struct ibz_step_answer s = step_by(0, 0, 0, at);
+    EXPECT(s.number == 0);
+    at = s.mark, clocks += s.clocks, moved += s.moved, dropped += s.dropped;
+  }
+  EXPECT(a.mark == at && a.clocks == clocks && a.moved == moved && a.dropped == dropped);
+  EXPECT(memcmp(block, now_block, sizeof now_block) == 0 && memcmp(memory, now_memory, memory_length) == 0);
+  EXPECT(memcmp(journal, now_journal, journal_length) == 0);
 }
 
 static int can_give(const char *numbers, uint32_t number) { return number <= 9 && strchr(numbers, '0' + (int)number) != NULL; }
@@ -105,33 +134,46 @@ static uint32_t one_reset(void) {
   return number;
 }
 
+static uint64_t dropped_in_all;
+
 static uint32_t one_step(void) {
   const uint32_t level = below(4) ? 0 : below(4) ? below(8) : any();
   const uint8_t vector = (uint8_t)any();
-  const struct ibz_step_answer a = ibz_step(block, block_length, memory, memory_length, level, vector, journal, journal_length, mark);
-  EXPECT(can_give("01234569", a.number) && a.event <= IBZ_EVENT_HALT);
+  const int keeps = below(2) == 0;
+  const struct ibz_step_answer a = step_by(keeps, level, vector, mark);
+  EXPECT(can_give(keeps ? "01234569" : "012345689", a.number) && a.event <= IBZ_EVENT_HALT && (!keeps || (a.moved == 0 && a.dropped == 0)));
   if (a.number == 0) {
-    EXPECT(a.mark > mark && a.mark - mark <= IBZ_RECORD_MOST && a.mark <= journal_length);
-    EXPECT(same_journal(0, mark) && same_journal(a.mark, journal_length));
-    EXPECT(a.clocks == there_and_back(1, a.mark, level, vector));
+    const size_t from = a.dropped == 0 ? mark : a.moved;
+    EXPECT(a.mark > from && a.mark - from <= IBZ_RECORD_MOST && from + IBZ_RECORD_MOST <= journal_length && from <= mark);
+    EXPECT(a.dropped != 0 || (a.moved == 0 && same_journal(0, mark)));
+    EXPECT(memcmp(journal, old_journal + (mark - from), from) == 0 && same_journal(a.mark, journal_length));
+    EXPECT(a.clocks == there_and_back(1, from, a.mark, level, vector));
   } else {
-    EXPECT(a.mark == mark && a.event == 0 && a.clocks == 0 && same_state() && same_journal(0, journal_length));
+    EXPECT(a.mark == mark && a.event == 0 && a.clocks == 0 && a.moved == 0 && a.dropped == 0);
+    EXPECT(same_state() && same_journal(0, journal_length));
   }
+  dropped_in_all += a.dropped;
   mark = a.mark;
   return a.number;
 }
 
 static uint32_t one_run(void) {
   const uint32_t budget = below(16) ? below(40) : any();
-  const struct ibz_run_answer a = ibz_run(block, block_length, memory, memory_length, budget, below(2048), journal, journal_length, mark);
-  EXPECT(can_give("012349", a.number));
+  const int keeps = below(2) == 0;
+  const struct ibz_run_answer a = run_by(keeps, budget, below(2048), mark);
+  EXPECT(can_give("012349", a.number) && (!keeps || (a.moved == 0 && a.dropped == 0)));
   if (a.number == 0) {
-    EXPECT(a.reason >= 1 && a.reason <= 5 && a.steps <= budget && a.mark >= mark && a.mark <= journal_length);
-    EXPECT(same_journal(0, mark) && same_journal(a.mark, journal_length));
-    EXPECT(a.clocks == there_and_back(a.steps, a.mark, 0, 0));
+    EXPECT(a.reason >= 1 && a.reason <= (keeps ? 5u : 6u) && a.steps <= budget && a.mark <= journal_length);
+    if (a.dropped == 0) {
+      EXPECT(a.moved == 0 && a.mark >= mark && same_journal(0, mark) && same_journal(a.mark, journal_length));
+      EXPECT(a.clocks == there_and_back(a.steps, mark, a.mark, 0, 0));
+    }
+    if (!keeps) one_by_one(a);
   } else {
-    EXPECT(a.mark == mark && a.reason == 0 && a.steps == 0 && a.clocks == 0 && same_state() && same_journal(0, journal_length));
+    EXPECT(a.mark == mark && a.reason == 0 && a.steps == 0 && a.clocks == 0 && a.moved == 0 && a.dropped == 0);
+    EXPECT(same_state() && same_journal(0, journal_length));
   }
+  dropped_in_all += a.dropped;
   mark = a.mark;
   return a.number;
 }
@@ -170,5 +212,7 @@ int main(int argc, char **argv) {
       if (counts[c][n] != 0) printf("  %u: %lu", n, counts[c][n]);
     puts("");
   }
+  printf("records dropped: %llu\n", (unsigned long long)dropped_in_all);
+  EXPECT(calls < 10000 || dropped_in_all > 0);
   return verdict("garbage");
 }

@@ -1,5 +1,5 @@
 /* nine_lines.c - 01's small program through the C calls: an image from standard input, four steps, four undos, nine lines.
- * Each line: steps that stand, PC, SR, mark. It is to print what the Rattle program of that name prints.  */
+ * Each line: steps that stand, PC, SR, mark. It keeps all records, and is to print what the Rattle program of that name prints. */
 #include "ibezofanle.h"
 #include <stdio.h>
 
@@ -16,7 +16,7 @@ int main(void) {
   ibz_reset(block, sizeof block, memory, sizeof memory);
   line(standing, mark);
   for (int i = 0; i < 4; i++) {
-    const struct ibz_step_answer a = ibz_step(block, sizeof block, memory, sizeof memory, 0, 0, journal, sizeof journal, mark);
+    const struct ibz_step_answer a = ibz_step_keeping(block, sizeof block, memory, sizeof memory, 0, 0, journal, sizeof journal, mark);
     mark = a.mark;
     standing += a.number == IBZ_DONE;
     line(standing, mark);

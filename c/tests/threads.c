@@ -1,14 +1,14 @@
 /* threads.c - several machines at once, a thread each: every one ends as it does alone. Each runs, steps with interrupts and goes back
- * on an image from standard input, in another order than the others. */
+ * on an image from standard input, in another order than the others, with a journal so short that records are dropped. */
 #include "tests.h"
 #include <pthread.h>
 
-enum { THREADS = 4, TURNS = 40, MEMORY = 65536, JOURNAL = 65536 };
+enum { THREADS = 4, TURNS = 40, MEMORY = 65536, JOURNAL = 8192 };
 
 struct machine {
   unsigned turn;
   size_t mark;
-  uint64_t clocks; /* of all steps that were done */
+  uint64_t clocks, dropped; /* of all steps that were done */
   uint8_t block[IBZ_BLOCK_LENGTH], memory[MEMORY], journal[JOURNAL];
 };
 
@@ -26,6 +26,7 @@ static void *work(void *p) {
         ibz_step(x->block, sizeof x->block, x->memory, MEMORY, (i + x->turn) % 8, (uint8_t)i, x->journal, JOURNAL, a.mark);
     x->mark = s.mark;
     x->clocks += a.clocks + s.clocks;
+    x->dropped += a.dropped + s.dropped;
     for (unsigned k = 0; k < 250 + x->turn; k++)
       x->mark = ibz_undo(x->block, sizeof x->block, x->memory, MEMORY, x->journal, JOURNAL, x->mark).mark;
   }
@@ -39,7 +40,7 @@ int main(void) {
   for (unsigned i = 0; i < THREADS; i++) EXPECT(pthread_create(&threads[i], NULL, work, &at_once[i]) == 0);
   for (unsigned i = 0; i < THREADS; i++) work(&alone[i]);
   for (unsigned i = 0; i < THREADS; i++) EXPECT(pthread_join(threads[i], NULL) == 0);
-  for (unsigned i = 0; i < THREADS; i++) EXPECT(memcmp(&at_once[i], &alone[i], sizeof alone[i]) == 0 && alone[i].mark > 0);
+  for (unsigned i = 0; i < THREADS; i++) EXPECT(memcmp(&at_once[i], &alone[i], sizeof alone[i]) == 0 && alone[i].mark > 0 && alone[i].dropped > 0);
   EXPECT(memcmp(alone[0].block, alone[1].block, sizeof alone[0].block) != 0 && alone[0].clocks != alone[1].clocks); /* not all the same */
   return verdict("threads");
 }

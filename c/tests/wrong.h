@@ -1,11 +1,15 @@
-/* wrong.h - the calls with one mistake each, to test the tests: built with -DWRONG=N, N from 1 to WRONG_CALLS, calls.c or garbage.c must
- * fail. kit/check tries each. Read by tests.h; after it the tests' calls are the wrong ones. */
+/* wrong.h - the calls with one mistake each, to test the tests: built with -DWRONG=N, N from 1 to WRONG_CALLS, calls.c, dropping.c or
+ * garbage.c must fail. kit/check tries each. Read by tests.h; after it the tests' calls are the wrong ones. */
 #ifndef WRONG_H
 #define WRONG_H
-#define WRONG_CALLS 20
+#define WRONG_CALLS 33
 
-/* What was lent, before an undo. */
-static uint8_t wrong_block[IBZ_BLOCK_LENGTH], wrong_memory[65536];
+/* What was lent, before a call. */
+static uint8_t wrong_block[IBZ_BLOCK_LENGTH], wrong_memory[65536], wrong_journal[65536];
+
+/* The calls that a mistake of both manners is put upon. */
+typedef struct ibz_step_answer step_call(uint8_t *, size_t, uint8_t *, size_t, uint32_t, uint8_t, uint8_t *, size_t, size_t);
+typedef struct ibz_run_answer run_call(uint8_t *, size_t, uint8_t *, size_t, uint32_t, uint32_t, uint8_t *, size_t, size_t);
 
 static inline struct ibz_reset_answer wrong_reset(uint8_t *block, size_t block_length, const uint8_t *memory, size_t memory_length) {
   struct ibz_reset_answer a = ibz_reset(block, block_length, memory, memory_length);
@@ -14,11 +18,12 @@ static inline struct ibz_reset_answer wrong_reset(uint8_t *block, size_t block_l
   return a;
 }
 
-static inline struct ibz_step_answer wrong_step(uint8_t *block, size_t block_length, uint8_t *memory, size_t memory_length,
-                                                uint32_t level, uint8_t vector, uint8_t *journal, size_t journal_length, size_t mark) {
+static inline struct ibz_step_answer wrong_step_by(step_call *call, uint8_t *block, size_t block_length, uint8_t *memory,
+                                                   size_t memory_length, uint32_t level, uint8_t vector, uint8_t *journal,
+                                                   size_t journal_length, size_t mark) {
   if (WRONG == 3) level &= 0xFFu; /* the level is cut */
   if (WRONG == 4) vector = 0;     /* the vector is dropped */
-  struct ibz_step_answer a = ibz_step(block, block_length, memory, memory_length, level, vector, journal, journal_length, mark);
+  struct ibz_step_answer a = call(block, block_length, memory, memory_length, level, vector, journal, journal_length, mark);
   if (WRONG == 5 && a.number != IBZ_DONE && block_length == IBZ_BLOCK_LENGTH) block[0] ^= 1; /* a refusal alters the block */
   if (WRONG == 6 && a.number == IBZ_DONE && a.mark < journal_length) journal[a.mark] ^= 1;   /* a byte past the record */
   if (WRONG == 7 && a.number == IBZ_DONE) a.mark++;
@@ -29,18 +34,62 @@ static inline struct ibz_step_answer wrong_step(uint8_t *block, size_t block_len
   return a;
 }
 
-static inline struct ibz_run_answer wrong_run(uint8_t *block, size_t block_length, uint8_t *memory, size_t memory_length, uint32_t budget,
-                                              uint32_t stop, uint8_t *journal, size_t journal_length, size_t mark) {
-  struct ibz_run_answer a = ibz_run(block, block_length, memory, memory_length, budget, stop, journal, journal_length, mark);
+static inline struct ibz_run_answer wrong_run_by(run_call *call, step_call *step, uint8_t *block, size_t block_length, uint8_t *memory,
+                                                 size_t memory_length, uint32_t budget, uint32_t stop, uint8_t *journal,
+                                                 size_t journal_length, size_t mark) {
+  struct ibz_run_answer a = call(block, block_length, memory, memory_length, budget, stop, journal, journal_length, mark);
   if (WRONG == 10 && a.number == IBZ_DONE) a.steps = budget; /* the count is invented */
   if (WRONG == 11 && a.number == IBZ_DONE) a.reason = IBZ_REASON_BUDGET;
   if (WRONG == 17 && a.number == IBZ_DONE) a.clocks += a.steps; /* as its steps */
   if (WRONG == 19 && a.steps > 0) { /* its last step is not added */
     const size_t before = ibz_undo(block, block_length, memory, memory_length, journal, journal_length, a.mark).mark;
-    a.clocks -= ibz_step(block, block_length, memory, memory_length, 0, 0, journal, journal_length, before).clocks;
+    a.clocks -= step(block, block_length, memory, memory_length, 0, 0, journal, journal_length, before).clocks;
   }
   if (WRONG == 20 && a.number != IBZ_DONE) a.clocks = 4;
   return a;
+}
+
+/* The manners' own mistakes: room that is made. */
+static inline struct ibz_step_answer wrong_step(uint8_t *block, size_t block_length, uint8_t *memory, size_t memory_length,
+                                                uint32_t level, uint8_t vector, uint8_t *journal, size_t journal_length, size_t mark) {
+  const int looks = journal_length <= sizeof wrong_journal && journal_length >= IBZ_RECORD_MOST;
+  if (looks) memcpy(wrong_journal, journal, journal_length);
+  struct ibz_step_answer a = wrong_step_by(WRONG == 21 ? ibz_step_keeping : ibz_step, /* the wrong manner */
+                                           block, block_length, memory, memory_length, level, vector, journal, journal_length, mark);
+  if (WRONG == 22) a.moved = 0;
+  if (WRONG == 23) a.dropped = 0;
+  if (WRONG == 24 && a.dropped != 0) memset(journal + a.mark, 0, journal_length - a.mark); /* bytes that mean nothing are cleared */
+  if (WRONG == 25 && a.dropped != 0 && looks && a.mark < mark) /* what was above the mark goes down too */
+    memcpy(journal + a.mark, wrong_journal + mark, journal_length - mark);
+  if (WRONG == 26 && a.number == IBZ_BAD_RECORD) a.number = IBZ_JOURNAL_FULL;
+  if (WRONG == 27 && a.number == IBZ_BAD_RECORD && mark > 0) journal[0] ^= 1; /* refused, and a byte of the journal is altered */
+  if (WRONG == 28 && a.number == IBZ_DONE && a.dropped == 0) a.moved = a.mark; /* moved where nothing was dropped */
+  return a;
+}
+
+static inline struct ibz_run_answer wrong_run(uint8_t *block, size_t block_length, uint8_t *memory, size_t memory_length, uint32_t budget,
+                                              uint32_t stop, uint8_t *journal, size_t journal_length, size_t mark) {
+  struct ibz_run_answer a = wrong_run_by(ibz_run, ibz_step, block, block_length, memory, memory_length, budget, stop, journal,
+                                         journal_length, mark);
+  if (WRONG == 29 && a.reason == IBZ_REASON_RECORD && ibz_get(block, IBZ_PC) == stop) a.reason = IBZ_REASON_ADDRESS; /* 5 before 6 */
+  if (WRONG == 30 && a.dropped != 0) a.dropped--;
+  if (WRONG == 31) a.moved &= 0xFFu;
+  return a;
+}
+
+static inline struct ibz_step_answer wrong_step_keeping(uint8_t *block, size_t block_length, uint8_t *memory, size_t memory_length,
+                                                        uint32_t level, uint8_t vector, uint8_t *journal, size_t journal_length,
+                                                        size_t mark) {
+  return wrong_step_by(WRONG == 32 ? ibz_step : ibz_step_keeping, block, block_length, memory, memory_length, level, vector, journal,
+                       journal_length, mark);
+}
+
+static inline struct ibz_run_answer wrong_run_keeping(uint8_t *block, size_t block_length, uint8_t *memory, size_t memory_length,
+                                                      uint32_t budget, uint32_t stop, uint8_t *journal, size_t journal_length,
+                                                      size_t mark) {
+  if (WRONG == 33 && budget > 5000 && budget <= IBZ_BUDGET_MOST) budget = 5000; /* else it would be long */
+  return wrong_run_by(WRONG == 33 ? ibz_run : ibz_run_keeping, ibz_step_keeping, block, block_length, memory, memory_length, budget, stop,
+                      journal, journal_length, mark);
 }
 
 static inline struct ibz_undo_answer wrong_undo(uint8_t *block, size_t block_length, uint8_t *memory, size_t memory_length,
@@ -62,5 +111,7 @@ static inline struct ibz_undo_answer wrong_undo(uint8_t *block, size_t block_len
 #define ibz_reset wrong_reset
 #define ibz_step wrong_step
 #define ibz_run wrong_run
+#define ibz_step_keeping wrong_step_keeping
+#define ibz_run_keeping wrong_run_keeping
 #define ibz_undo wrong_undo
 #endif
