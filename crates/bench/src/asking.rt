@@ -2,7 +2,10 @@
 // Means: nothing; proved safe.
 // Uses: running, stack_limit, io, libc.  Source: [ours]; the lengths are those of [01 Calls and what they give back].
 use crate::running::ALONE;
+use crate::running::DROPPING;
 use crate::running::HASHED;
+use crate::running::RECORDS;
+use crate::running::SINGLY;
 use crate::running::UNDONE;
 use libc::STDERR_FILENO;
 
@@ -18,6 +21,12 @@ pub const JOURNAL: u32 = 3;
 pub const SPEED: u32 = 4;
 
 pub const UNDO: u32 = 5;
+
+pub const RECORD: u32 = 6;
+
+pub const DROP: u32 = 7;
+
+pub const SINGLE: u32 = 8;
 
 pub const NO_COUNT: u64 = 1000000000000;
 
@@ -69,6 +78,15 @@ pub fn word_of(text: &[u8]) -> u32 {
     if is_word(text, b"undo") {
         return UNDO;
     }
+    if is_word(text, b"records") {
+        return RECORD;
+    }
+    if is_word(text, b"dropping") {
+        return DROP;
+    }
+    if is_word(text, b"singly") {
+        return SINGLE;
+    }
     ANY
 }
 
@@ -117,6 +135,9 @@ fn way_of(next: u32) -> u32 {
     match next {
         SPEED => ALONE,
         UNDO => UNDONE,
+        RECORD => RECORDS,
+        DROP => DROPPING,
+        SINGLE => SINGLY,
         _ => HASHED,
     }
 }

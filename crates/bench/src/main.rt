@@ -3,10 +3,14 @@
 // Uses: codes, machine, io, libc, os.  Source: [ours].
 //
 // Arguments, in any number: a count of steps tells what that many steps from a reset give; `speed COUNT` only runs
-// them, and `undo COUNT` runs each, undoes it and runs it again: both tell clocks and slots alone. The image is standard
-// input, or the file of an `image FILE` before the counts; `memory BYTES` and `journal BYTES` before them say how much
-// is lent: else 65,536 bytes, and 1,048,576. A memory above 65,536 bytes needs a stack of 64 MiB, as `./run` gives it.
-// An argument that is none of these, or a length that cannot be lent, is told on standard error and passed over.
+// them, and `undo COUNT` runs each, undoes it and runs it again: both tell clocks and slots alone. In all three every
+// record is kept, and the journal starts again when it is full; so it does with `records COUNT`, which tells the records
+// themselves, a line for each start of the journal. `dropping COUNT` runs the steps in the manner that drops the oldest
+// records, and `singly COUNT` takes them so one by one: both tell the mark, the hash of the whole journal, the bytes
+// moved and the records dropped too. The image is standard input, or the file of an `image FILE` before the counts;
+// `memory BYTES` and `journal BYTES` before them say how much is lent: else 65,536 bytes, and 1,048,576. A memory above
+// 65,536 bytes needs a stack of 64 MiB, as `./run` gives it. An argument that is none of these, or a length that cannot
+// be lent, is told on standard error and passed over.
 mod asking;
 mod running;
 
@@ -17,8 +21,10 @@ use asking::NO_COUNT;
 use codes::SLOTS;
 use libc::STDIN_FILENO;
 use libc::STDOUT_FILENO;
+use running::DROPPING;
 use running::HASHED;
 use running::Progress;
+use running::SINGLY;
 
 // Reads an image; the bytes after it are 0.
 fn load(from: i32, image: &mut [u8; 65536]) {
@@ -68,6 +74,17 @@ fn write_progress(p: Progress, memory: &[u8]) {
     io::write_all(STDOUT_FILENO, b" ");
 }
 
+// What is told where records are dropped: of the journal all bytes.
+fn write_dropped(p: Progress, memory: &[u8], journal: &[u8]) {
+    write_number(b"steps ", p.steps);
+    write_number(b" mark ", p.mark as u64);
+    write_hash(b" jhash ", running::hash_of(journal));
+    write_hash(b" memhash ", running::hash_of(memory));
+    write_number(b" moved ", p.moved);
+    write_number(b" dropped ", p.dropped);
+    io::write_all(STDOUT_FILENO, b" ");
+}
+
 // Runs what is asked, on the memory and the journal that are lent.
 fn run_asked(a: Asked, memory: &mut [u8], journal: &mut [u8]) {
     let mut slots = [0u32; SLOTS];
@@ -76,6 +93,9 @@ fn run_asked(a: Asked, memory: &mut [u8], journal: &mut [u8]) {
     let q = running::run_all(p, &mut slots, memory, journal, a.way);
     if a.way == HASHED {
         write_progress(q, memory);
+    }
+    if (a.way == DROPPING) | (a.way == SINGLY) {
+        write_dropped(q, memory, journal);
     }
     write_number(b"clocks ", q.clocks);
     io::write_all(STDOUT_FILENO, b" state ");

@@ -1,6 +1,6 @@
 // trying.rt - one case: its step and the undo of it, each compared whole with what the line lists.
 // Means: what agrees is equal, of the two that compare; else nothing, proved safe.
-// Uses: codes, machine, compare.  Source: [01 Calls and what they give back], crates/vectors/README.md.
+// Uses: codes, keeping, machine, compare.  Source: [01 Calls and what they give back], crates/vectors/README.md.
 ghost use mathlib.Core.Path.{_≡_};
 use crate::setting::change_slots;
 use crate::setting::fill;
@@ -136,7 +136,7 @@ fn step(
     vector: u8,
     journal: &mut [u8],
 ) -> Taken {
-    let answer = machine::step(slots, memory, level, vector, journal, MARK);
+    let answer = keeping::step_keeping(slots, memory, level, vector, journal, MARK);
     Taken {
         number: answer.number,
         mark: answer.mark,

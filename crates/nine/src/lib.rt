@@ -1,6 +1,6 @@
 // lib.rt - four steps and four undos of a memory, each told in a line.
 // Means: nothing; proved safe. The lines are those of 01's small program.
-// Uses: codes, machine, io, libc.  Source: [01 Set down and proved].
+// Uses: codes, keeping, machine, io, libc.  Source: [01 Set down and proved].
 use codes::SLOTS;
 use libc::STDOUT_FILENO;
 
@@ -56,7 +56,7 @@ fn after_undo(s: Standing, number: u32, mark: usize) -> Standing {
 }
 
 fn step(s: Standing, slots: &mut [u32; SLOTS], memory: &mut [u8], journal: &mut [u8]) -> Standing {
-    let answer = machine::step(slots, memory, 0, 0, journal, s.mark);
+    let answer = keeping::step_keeping(slots, memory, 0, 0, journal, s.mark);
     after_step(s, answer.number, answer.mark)
 }
 

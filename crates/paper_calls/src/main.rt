@@ -1,8 +1,9 @@
-// main.rt - 01's examples that are run and compared: ADD.B, the halt of $4AFC with an odd SSP, the journal's 535 and 536 bytes, budget 0.
-// Means: nothing; its stored output is 01's text, worked out by hand.
-// Uses: codes, machine, compare, io.  Source: [01 Set down and proved].
+// main.rt - the papers' examples that are run and compared: ADD.B, the halt of $4AFC with an odd SSP, the journal's 535 and 536 bytes,
+// budget 0, by the calls that keep all records; and a full journal, in either manner.
+// Means: nothing; its stored output is the papers' text, worked out by hand.
+// Uses: codes, keeping, machine, compare, io.  Source: [01 Set down and proved], [K5].
 //
-// What a call leaves is held against what 01 says, and then, so that a comparison which forgets something is seen, against the same with
+// What a call leaves is held against what the papers say, and then, so that a comparison which forgets something is seen, against the same with
 // one slot or one byte altered, each of them in its turn: all of those must differ.
 ghost use mathlib.Core.Path.{_≡_};
 ghost use Prim.Native.Nat.{_≤_, _<_};
@@ -28,9 +29,9 @@ fn end_line() {
 fn tell(what: &[u8], is_same: bool, altered: u64) {
     io::write_all(1, what);
     if is_same {
-        io::write_all(1, b" as 01 says");
+        io::write_all(1, b" as the papers say");
     } else {
-        io::write_all(1, b" other than 01 says");
+        io::write_all(1, b" other than the papers say");
     }
     show_count(b", altered ones that differ ", altered);
     end_line();
@@ -120,7 +121,7 @@ fn add_byte() {
     let mut s = slots_with(127, 1, 1024, 512, 9984, 0);
     let mut m = memory_with(208, 1);
     let mut j = [0u8; 536];
-    let a = machine::step(&mut s, &mut m, 0, 0, &mut j, 0);
+    let a = keeping::step_keeping(&mut s, &mut m, 0, 0, &mut j, 0);
     show(b"ADD.B $7F + $01: number ", a.number);
     show(b", D0 ", s[0]);
     show(b", flags ", s[codes::SR] % codes::FLAG_VALUES);
@@ -142,7 +143,7 @@ fn odd_stack() {
     let mut s = slots_with(0, 0, 769, 512, 9984, 0);
     let mut m = memory_with(74, 252);
     let mut j = [0u8; 536];
-    let a = machine::step(&mut s, &mut m, 0, 0, &mut j, 0);
+    let a = keeping::step_keeping(&mut s, &mut m, 0, 0, &mut j, 0);
     show(b"$4AFC with SSP $301: number ", a.number);
     show(b", mode ", s[codes::MODE]);
     show_count(b", mark ", a.mark as u64);
@@ -157,7 +158,7 @@ fn journal_too_short() {
     let mut s = slots_with(0, 0, 1024, 512, 9984, 0);
     let mut m = memory_with(112, 1);
     let mut j = [0u8; 535];
-    let a = machine::step(&mut s, &mut m, 0, 0, &mut j, 0);
+    let a = keeping::step_keeping(&mut s, &mut m, 0, 0, &mut j, 0);
     show(b"535 journal bytes: number ", a.number);
     end_line();
     tell_slots(&s, slots_with(0, 0, 1024, 512, 9984, 0));
@@ -170,7 +171,7 @@ fn journal_room() {
     let mut s = slots_with(0, 0, 1024, 512, 9984, 0);
     let mut m = memory_with(112, 1);
     let mut j = [0u8; 536];
-    let a = machine::step(&mut s, &mut m, 0, 0, &mut j, 0);
+    let a = keeping::step_keeping(&mut s, &mut m, 0, 0, &mut j, 0);
     show(b"536 journal bytes: number ", a.number);
     end_line();
     tell_slots(&s, slots_with(1, 0, 1024, 514, 9984, 0));
@@ -182,7 +183,7 @@ fn no_budget() {
     let mut s = slots_with(0, 0, 1024, 512, 9984, 2);
     let mut m = memory_with(96, 254);
     let mut j = [0u8; 536];
-    let a = machine::run(&mut s, &mut m, 0, 0, &mut j, 0);
+    let a = keeping::run_keeping(&mut s, &mut m, 0, 0, &mut j, 0);
     show(b"budget 0 on a halted machine: number ", a.number);
     show(b", reason ", a.reason);
     show(b", steps ", a.steps);
@@ -191,11 +192,80 @@ fn no_budget() {
     tell_memory(&m, memory_with(96, 254));
 }
 
-// The halt held against what 01 does not say: with one altered, the right mode or the right byte comes out, and that one is the same.
+// A record of 4 bytes, and 532 free. Where all records are kept the step is refused, and nothing is altered.
+fn full_kept() {
+    let mut s = slots_with(0, 0, 1024, 512, 9984, 0);
+    let mut m = memory_with(112, 1);
+    let mut j = record_of_mode();
+    let a = keeping::step_keeping(&mut s, &mut m, 0, 0, &mut j, 4);
+    show(b"532 bytes free, all records kept: number ", a.number);
+    show_count(b", mark ", a.mark as u64);
+    end_line();
+    tell_slots(&s, slots_with(0, 0, 1024, 512, 9984, 0));
+    tell_memory(&m, memory_with(112, 1));
+    tell_journal(&j, record_of_mode());
+}
+
+// The record of MOVEQ #1,D0 at $200: slots 0 and 17, old values 0 and 512, two slots, no byte.
+fn record_of_moveq() -> [u8; 536] {
+    let mut j = [0u8; 536];
+    j[2] = 17;
+    j[3] = 4;
+    j[4] = 128;
+    j[5] = 2;
+    j
+}
+
+// Where the oldest are dropped that record goes, and MOVEQ's lies at place 0.
+fn full_dropped() {
+    let mut s = slots_with(0, 0, 1024, 512, 9984, 0);
+    let mut m = memory_with(112, 1);
+    let mut j = record_of_mode();
+    let a = machine::step(&mut s, &mut m, 0, 0, &mut j, 4);
+    show(b"532 bytes free, the oldest dropped: number ", a.number);
+    show_count(b", mark ", a.mark as u64);
+    show_count(b", moved ", a.moved as u64);
+    show_count(b", dropped ", a.dropped as u64);
+    end_line();
+    tell_slots(&s, slots_with(1, 0, 1024, 514, 9984, 0));
+    tell_memory(&m, memory_with(112, 1));
+    tell_journal(&j, record_of_moveq());
+}
+
+// A byte that ends no record, where room is short: a step is refused, and nothing is altered.
+fn torn_step() {
+    let mut s = slots_with(0, 0, 1024, 512, 9984, 0);
+    let mut m = memory_with(112, 1);
+    let mut j = [0u8; 536];
+    let a = machine::step(&mut s, &mut m, 0, 0, &mut j, 1);
+    show(b"a byte that is no record, a step: number ", a.number);
+    show_count(b", mark ", a.mark as u64);
+    end_line();
+    tell_slots(&s, slots_with(0, 0, 1024, 512, 9984, 0));
+    tell_memory(&m, memory_with(112, 1));
+    tell_journal(&j, [0u8; 536]);
+}
+
+// And a run ends before its first step, for reason 6.
+fn torn_run() {
+    let mut s = slots_with(0, 0, 1024, 512, 9984, 0);
+    let mut m = memory_with(112, 1);
+    let mut j = [0u8; 536];
+    let a = machine::run(&mut s, &mut m, 1, 512, &mut j, 1);
+    show(b"a byte that is no record, a run: number ", a.number);
+    show(b", reason ", a.reason);
+    show(b", steps ", a.steps);
+    end_line();
+    tell_slots(&s, slots_with(0, 0, 1024, 512, 9984, 0));
+    tell_memory(&m, memory_with(112, 1));
+    tell_journal(&j, [0u8; 536]);
+}
+
+// The halt held against what no paper says: with one altered, the right mode or the right byte comes out, and that one is the same.
 fn not_said() {
     let s = slots_with(0, 0, 769, 512, 9984, 2);
     let m = memory_with(74, 252);
-    io::write_all(1, b"not said by 01\n");
+    io::write_all(1, b"not said by the papers\n");
     tell_slots(&s, slots_with(0, 0, 769, 512, 9984, 3));
     tell_memory(&m, memory_with(74, 253));
 }
@@ -206,5 +276,9 @@ fn main() {
     journal_too_short();
     journal_room();
     no_budget();
+    full_kept();
+    full_dropped();
+    torn_step();
+    torn_run();
     not_said();
 }
