@@ -21,8 +21,8 @@
  * With room enough the two do the same, and they may be mixed on one journal. The mark is always the joint length of the records that
  * are left. Only records on the way back to place 0 that are well shaped, all of them, are dropped or moved (IBZ_BAD_RECORD,
  * IBZ_REASON_RECORD); a journal with room enough is not judged. To find where records begin, an ibz_step on a full journal reads all of
- * them back, at every step: some 250 instructions a record, or 25 ns. An ibz_run does so once, where it first finds the journal full, and
- * from then on reads only those that are about to be dropped: where a journal is long and full, prefer runs.
+ * them back, at every step: some 250 instructions a record. An ibz_run does so once, where it first finds the journal full, and from
+ * then on reads only those that are about to be dropped: where a journal is long and full, prefer runs.
  *
  * Every answer begins with `number`: 0 if the call was done, else why it was refused (enum ibz_number). A refused step, run or undo
  * leaves block, memory, journal and mark as they were. A refused reset sets the halted state, 2 in slot 19 and 0 in every other; but
