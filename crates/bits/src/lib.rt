@@ -1,8 +1,9 @@
-// lib.rt - numbers of 8, 16 and 32 bits: cut to a size, sign, differences, parts replaced. Knows no 68000.
-// Means: specs/Bits.antt.  Laws: proofs/BitsLaws.antt.
+// lib.rt - numbers of 8, 16 and 32 bits: cut to a size, sign, differences, parts replaced, ones counted. Knows no 68000.
+// Means: specs/Bits.antt.  Laws: proofs/BitsLaws.antt, proofs/OnesLaws.antt.
 // Uses: nothing.  Source: [003 2.2], [003 B.4], [ours].
 ghost use mathlib.Core.Path.{_≡_};
 ghost use Prim.Native.Nat.{_+_, _*_, _%_, _<_, _≤_};
+ghost use lib.Count.{onesIn};
 ghost use Rattle.bits.specs.Bits.{bit, modulus, half, low, minus, joined, sign-byte, sign-word, sign-extended};
 
 // A byte as a wider number.
@@ -107,4 +108,11 @@ pub fn sign_extended(x: u32, z: u32) -> u32
         return sign_word(x);
     }
     x
+}
+
+// How many of the low sixteen bits are ones.
+pub fn ones_of(x: u32) -> u32
+    ensures { λ n. ⌜ (n ≡ onesIn 16 x) × (n ≤ 16) ⌝ }
+{
+    u32::count_ones(x % 65536)
 }

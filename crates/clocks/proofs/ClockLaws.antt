@@ -1,18 +1,18 @@
 -- ClockLaws.antt - one law for each return of the functions of clocks.
--- place-..; operand-is; general-register, -immediate, -memory; NAME-is for each rule; ones-is: the kit's count of ones is the definition's.
+-- place-..; operand-is; general-register, -immediate, -memory; NAME-is for each rule.
 -- Uses: bits, flags, bus, operand, bitwise.
-use Prim.Native.Nat.{ℕ, zero, suc, _+_, _*_, _%_, _/_, _^_, _<_, _≤_}
+use Prim.Native.Nat.{ℕ, _+_, _*_, _%_, _/_, _<_, _≤_}
 use native.Mathlib.Omega.{arith}
-use native.Mathlib.Nat.{mul-le-mul-right, pow-suc}
+use native.Mathlib.Nat.{mul-le-mul-right}
 use mir.Syntax.{w32}
 use mir.Val.{Fits}
-use mathlib.Core.Path.{_≡_, ap}
+use mathlib.Core.Path.{_≡_}
 use mathlib.Core.Bool.{Bool, true, false}
 use mathlib.Core.List.{List}
 use lib.ListN.{getD}
 use lib.Dec.{ltb, eqb}
-use lib.Bits.{bitXor, xor-lt}
-use lib.Count.{ones, onesIn, ones-step, ones-le}
+use lib.Bits.{bitXor}
+use lib.Count.{onesIn}
 use Rattle.bits.specs.Bits.{bit}
 use Rattle.flags.specs.Flags.{condition}
 use Rattle.bus.specs.declared.Flow.{Flow}
@@ -113,28 +113,14 @@ bit-is op p b t u a w o s e1 e2 e3 e4 e5 e6 e7 = cc
 
 -- ---- numbers that decide at run time
 
--- the kit's count of ones, of a number of d digits
-ones-in : (d n : ℕ) → n < 2 ^ d → ones n ≡ onesIn d n
-unfolding ones onesIn
-ones-in zero n h = let z : n ≡ 0 = omega arith in ap ones z
-ones-in (suc d) n h =
-    let p = pow-suc 2 d in
-    let s = ones-step n in let r = ones-in d (n / 2) (omega (arith, p, h)) in cc
-
-pub ones-is : (x : ℕ) → ones (x % 65536) ≡ onesIn 16 (x % 65536)
-ones-is x = ones-in 16 (x % 65536) (omega arith)
-
-pub ones-few : (x : ℕ) → ones (x % 65536) < 17
-ones-few x = let h = ones-le 16 (x % 65536) (omega arith) in omega (arith, h)
-
 -- a count of ones times a byte
-pub product-small : (n e : ℕ) → n < 17 → e < 256 → n * e < 4096
+pub product-small : (n e : ℕ) → n ≤ 16 → e < 256 → n * e < 4096
 product-small n e h k = let a : n * e ≤ 16 * e = mul-le-mul-right e (omega (arith, h)) in omega arith
 
-pub product-fits : (n e : ℕ) → n < 17 → e < 256 → Fits w32 (n * e)
+pub product-fits : (n e : ℕ) → n ≤ 16 → e < 256 → Fits w32 (n * e)
 product-fits n e h k = let a = product-small n e h k in record { fits = omega arith }
 
-pub listed-is : (a b op n x e : ℕ) (v : View) (f : Flow) (w : Fetched) → w ≡ next-word v f → n ≡ onesIn 16 (w .value % 65536)
+pub listed-is : (a b op n x e : ℕ) (v : View) (f : Flow) (w : Fetched) → w ≡ next-word v f → n ≡ onesIn 16 (w .value)
     → x ≡ by-long a b (eqb (op / 64 % 2) 1) → e ≡ x → n * e ≡ listed a b v op f
 unfolding listed
 listed-is a b op n x e v f w e1 e2 e3 e4 = cc
@@ -144,22 +130,13 @@ module _ (r : List ℕ) (v : View) (op : ℕ) (f : Flow) where
   unfolding factor
   factor-is q w e1 e2 = cc
 
-  -- a number of sixteen digits is all that is counted of it
-  factor-cut : factor r v op f % 65536 ≡ factor r v op f
-  unfolding factor
-  factor-cut = omega arith
-
-  pub unsigned-is : (a g x n : ℕ) → g ≡ narrow a a op → x ≡ factor r v op f → n ≡ onesIn 16 (x % 65536) → g + n * 2 ≡ unsigned a r v op f
+  pub unsigned-is : (a g x n : ℕ) → g ≡ narrow a a op → x ≡ factor r v op f → n ≡ onesIn 16 x → g + n * 2 ≡ unsigned a r v op f
   unfolding unsigned
-  unsigned-is a g x n e1 e2 e3 = let z = factor-cut in cc
+  unsigned-is a g x n e1 e2 e3 = cc
 
-  pub signed-is : (a g x n : ℕ) → g ≡ narrow a a op → x ≡ factor r v op f → n ≡ onesIn 16 (bitXor x (x * 2 % 65536) % 65536) → g + n * 2 ≡ signed a r v op f
+  pub signed-is : (a g x n : ℕ) → g ≡ narrow a a op → x ≡ factor r v op f → n ≡ onesIn 16 (bitXor x (x * 2 % 65536)) → g + n * 2 ≡ signed a r v op f
   unfolding signed
-  signed-is a g x n e1 e2 e3 =
-      let z = factor-cut in
-      let y = factor r v op f in
-      let l : bitXor y (y * 2 % 65536) < 65536 = xor-lt 16 y (y * 2 % 65536) (omega (arith, z)) (omega arith) in
-      let m : bitXor y (y * 2 % 65536) % 65536 ≡ bitXor y (y * 2 % 65536) = omega (arith, l) in cc
+  signed-is a g x n e1 e2 e3 = cc
 
 pub shifted-is : (r : List ℕ) (op a b x w n : ℕ) → x ≡ by-long a b (eqb (op / 128 % 2) 1) → w ≡ x → n ≡ shift-count r op → w + n % 64 * 2 ≡ shifted a b r op
 unfolding shifted

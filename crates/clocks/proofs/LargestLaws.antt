@@ -14,6 +14,7 @@ use lib.Count.{onesIn}
 use borrow.Author.Tests.{leb-true, eqb-true}
 use Rattle.bits.specs.Bits.{pick, bit}
 use Rattle.bits.proofs.BitsLaws.{and-left, and-right, pick-cases}
+use Rattle.bits.proofs.OnesLaws.{ones-bound}
 use Rattle.flags.specs.Flags.{condition}
 use Rattle.bus.specs.declared.Flow.{Flow}
 use Rattle.bus.specs.Bus.{View, next-word}
@@ -67,13 +68,6 @@ short-bound op =
     let e : place-of op * 2 + 0 ≡ place-of op * 2 = omega arith in
     subst (λ (i : ℕ). getD operand-table i 0 ≤ 12) (sym e) (first-at-most 12 operand-table (place-of op) refl)
 
--- ---- numbers that decide at run time
-
-ones-bound : (d x : ℕ) → onesIn d x ≤ d
-unfolding onesIn
-ones-bound zero x = omega arith
-ones-bound (suc d) x = let h = ones-bound d (x / 2) in omega arith
-
 -- ---- rules: a bound of the times is one of the clocks
 
 module _ (x a b : ℕ) (p : a ≤ x) (q : b ≤ x) where
@@ -88,10 +82,10 @@ module _ (x a b : ℕ) (p : a ≤ x) (q : b ≤ x) where
   listed-bound : (v : View) (op : ℕ) (f : Flow) → listed a b v op f ≤ 16 * x
   unfolding listed
   listed-bound v op f =
-      let n = onesIn 16 (next-word v f .value % 65536) in
+      let n = onesIn 16 (next-word v f .value) in
       let e = by-long a b (eqb (op / 64 % 2) 1) in
       let l : n * e ≤ n * x = mul-le-mul-left n (long-bound (eqb (op / 64 % 2) 1)) in
-      let m : n * x ≤ 16 * x = mul-le-mul-right x (ones-bound 16 (next-word v f .value % 65536)) in omega arith
+      let m : n * x ≤ 16 * x = mul-le-mul-right x (ones-bound 16 (next-word v f .value)) in omega arith
 
 module _ (x a b c d : ℕ) (p : a ≤ x) (q : b ≤ x) (s : c ≤ x) (t : d ≤ x) where
   general-bound : (op : ℕ) (long : Bool) → general a b c d op long ≤ x + 16

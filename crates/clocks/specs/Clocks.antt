@@ -85,7 +85,7 @@ jumped a op = a + getD jmp-table (place-of op) 0
 
 -- MOVEM's registers: a for each word, b for each long; their number is that of the ones in the list  [003 D-10]
 unfoldable pub listed : ℕ → ℕ → View → ℕ → Flow → ℕ
-listed a b v op f = onesIn 16 (next-word v f .value % 65536) * by-long a b (eqb (long-bit op) 1)
+listed a b v op f = onesIn 16 (next-word v f .value) * by-long a b (eqb (long-bit op) 1)
 
 -- MOVEM to memory: the time of the mode, and its registers'  [003 D-10]
 unfoldable pub stored : ℕ → ℕ → View → ℕ → Flow → ℕ

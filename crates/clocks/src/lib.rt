@@ -3,7 +3,6 @@
 // Uses: codes, bits, flags, bus, operand, bitwise.  Source: [003 D], [K2].
 ghost use mathlib.Core.Path.{_≡_};
 ghost use Prim.Native.Nat.{_%_, _<_};
-ghost use lib.Count.{onesIn};
 ghost use Rattle.bus.specs.Bus.{view-of};
 ghost use Rattle.clocks.specs.Clocks.{place, operand-clocks, by-long, general, sized, addressed, narrow, paired, peripheral, moved, located, jumped};
 ghost use Rattle.clocks.specs.Clocks.{listed, stored, loaded, factor, signed, unsigned, shifted, bit-clocks, branched, counted-by, counted};
@@ -127,20 +126,12 @@ pub fn jumped(a: u8, op: u32) -> u32
     bits::wide(a) + bits::wide(tables::jmp(place(op / 8 % 8, op % 8)))
 }
 
-// The ones of a word.
-fn ones_of(x: u32) -> u32
-    ensures { λ n. ⌜ n ≡ onesIn 16 (x % 65536) ⌝ }
-    ensures { λ n. ⌜ n < 17 ⌝ }
-{
-    u32::count_ones(x % 65536)
-}
-
 fn listed(a: u8, b: u8, mem: &[u8], op: u32, f: Flow) -> u32
     ensures { λ n. ⌜ n ≡ listed a b (view-of (now (mem .entry))) op f ⌝ }
     ensures { λ n. ⌜ n < 4096 ⌝ }
 {
     let w = bus::next_word(mem, f);
-    ones_of(w.value) * bits::wide(by_long(a, b, op / 64 % 2 == 1))
+    bits::ones_of(w.value) * bits::wide(by_long(a, b, op / 64 % 2 == 1))
 }
 
 pub fn stored(a: u8, b: u8, mem: &[u8], op: u32, f: Flow) -> u32
@@ -170,13 +161,13 @@ pub fn signed(a: u8, r: &[u32; SLOTS], mem: &[u8], op: u32, f: Flow) -> u32
     ensures { λ n. ⌜ n ≡ signed a (now (r .entry)) (view-of (now (mem .entry))) op f ⌝ }
 {
     let x = factor(r, mem, op, f);
-    narrow(a, a, op) + ones_of(x ^ (x * 2 % 65536)) * 2
+    narrow(a, a, op) + bits::ones_of(x ^ (x * 2 % 65536)) * 2
 }
 
 pub fn unsigned(a: u8, r: &[u32; SLOTS], mem: &[u8], op: u32, f: Flow) -> u32
     ensures { λ n. ⌜ n ≡ unsigned a (now (r .entry)) (view-of (now (mem .entry))) op f ⌝ }
 {
-    narrow(a, a, op) + ones_of(factor(r, mem, op, f)) * 2
+    narrow(a, a, op) + bits::ones_of(factor(r, mem, op, f)) * 2
 }
 
 pub fn shifted(a: u8, b: u8, r: &[u32; SLOTS], op: u32) -> u32

@@ -48,8 +48,7 @@ unfolding Count.onesIn Bits.iter Bits.by-size Bits.sign-byte Bits.sign-word
     Integer.into-register Integer.taken Integer.replaced Integer.onto Integer.immediate-to Integer.compare-immediate Integer.quick-sum
     Integer.to-address Integer.compare-address Integer.paired Integer.compare-memory Integer.alone Integer.test Integer.divide
     Bitwise.shift-count Bitwise.shift-place Bitwise.bit-size Bitwise.bit-place Bitwise.bit-static
-    Movem.next-spot Movem.load-one Movem.movem-to-registers Movem.movem-down Movem.movem-to-memory Movem.room-way Movem.room-one Movem.block-room Movem.mirrored Movem.put-way Movem.stored Movem.byte-of Movem.part-of Movem.put-part Movem.put-one Movem.block-put Movem.down-one
-    Movem.block-put-down
+    Movem.next-spot Movem.load-one Movem.movem-to-registers Movem.movem-down Movem.movem-to-memory Movem.room-way Movem.room-one Movem.block-room Movem.mirrored Movem.put-way Movem.stored Movem.byte-of Movem.part-of Movem.put-part Movem.put-one Movem.block-put
     Bank.bank Bank.usp-after Bank.ssp-after Bank.sr-after Bank.mode-after Bank.settle
     Exceptions.handler Exceptions.can-enter Exceptions.enter Exceptions.small-room Frames.small-frame Exceptions.small-ready Exceptions.exception
     Exceptions.big-room Frames.fault-access Exceptions.big-ready

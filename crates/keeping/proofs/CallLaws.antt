@@ -14,7 +14,7 @@ use Rattle.step.specs.Steps.{one-step, step-clocks}
 use Rattle.numbers.specs.Number.{written}
 use Rattle.numbers.proofs.WrittenLaws.{length-written}
 use Rattle.record.specs.Limits.{slot-limit, byte-limit, longest-record}
-use Rattle.record.specs.Change.{Ascending, changes, restore, step-record}
+use Rattle.record.specs.Change.{Ascending, ByteOlds, changes, restore, step-record}
 use Rattle.record.proofs.SizeLaws.{valid-slots-from, valid-bytes-from}
 use Rattle.touch.specs.Touch.{LogOk, Noted}
 use Rattle.touch.proofs.TouchLaws.{log-start}
@@ -85,8 +85,9 @@ pub log-ready : (m l : List ℕ) → memory-fits m ≡ true → byte-limit ≤ l
 log-ready m l f h = (log-start m l (fits-inv m f .2), h)
 
 -- what a log is after a step
-pub log-done : (m l m₁ l₁ : List ℕ) (n : ℕ) → Noted m l 0 byte-limit m₁ l₁ n → (n ≤ length l₁) × (n < 2 ^ 32) × Ascending 0 (length m₁) (changes l₁ n)
-log-done m l m₁ l₁ n noted = (noted .ok .room, (let h = noted .most in omega arith), noted .ok .order)
+pub log-done : (m l m₁ l₁ : List ℕ) (n : ℕ) → Noted m l 0 byte-limit m₁ l₁ n
+    → (n ≤ length l₁) × (n < 2 ^ 32) × Ascending 0 (length m₁) (changes l₁ n) × ByteOlds (changes l₁ n)
+log-done m l m₁ l₁ n noted = (noted .ok .room, (let h = noted .most in omega arith), noted .ok .order, noted .ok .olds)
 
 -- the public step: k is its number
 module _ (s m : List ℕ) (level vector : ℕ) (j : List ℕ) (mark k : ℕ) (e : k ≡ step-tests Keeping s m level j mark 0) where

@@ -1,5 +1,5 @@
 -- DownLaws.antt - MOVEM to -(An) leaves what the order of 003 leaves: no two parts of its block meet, so that they may be put in either order.
--- block-put-is-down.
+-- block-put-is-down; ones-of-mirrored.
 -- Uses: bits, bus, plan.
 use Prim.Native.Nat.{ℕ, zero, suc, _+_, _*_, _-_, _%_, _/_, _<_, _≤_, _^_}
 use native.Mathlib.Omega.{arith}
@@ -16,13 +16,14 @@ use lib.Count.{onesIn}
 use lib.Pow.{field, mod-mod-pow}
 use borrow.Author.Tests.{eqb-true, eqb-false, eq-eqb, ne-eqb, lt-leb}
 use Rattle.bits.specs.Bits.{pick, iter, bit, by-size, plus, minus}
+use Rattle.bits.proofs.OnesLaws.{ones-bound}
 use Rattle.bus.specs.declared.Flow.{Flow}
 use Rattle.bus.specs.Bus.{pins, put-byte, put-word, put-long, put-sized}
 use Rattle.plan.specs.declared.Plan.{Plan}
 use Rattle.movem.specs.declared.Way.{Way}
 use Rattle.movem.specs.declared.Spot.{Spot}
 use Rattle.movem.specs.Movem.{listed, first-spot, next-spot, Walk, room-way, mirrored, put-way, stored, part-of, put-part, put-one, block-put}
-use Rattle.movem.specs.Movem.{down-one, block-put-down}
+use Rattle.movem.specs.Order.{down-one, block-put-down}
 use Rattle.movem.proofs.MovemLaws.{walk, room-way-down}
 use Rattle.movem.proofs.BlockLaws.{put-way-down, part-of-register}
 
@@ -68,6 +69,29 @@ mirrored-value v = simp (bit-is, div-div-eq-div-mul) (omega arith)
 
 mirrored-bits : (v : ℕ) → bits 16 (mirrored v) ≡ mirror (bits 16 v)
 mirrored-bits v = ap (bits 16) (mirrored-value v) ∙ bits-of-value (mirror (bits 16 v))
+
+-- a mirrored list has as many ones
+total : List Bool → ℕ
+total [] = 0
+total (b ∷ bs) = bit b + total bs
+
+total-append : (bs cs : List Bool) → total (bs ++ cs) ≡ total bs + total cs
+unfolding total
+total-append [] cs = omega arith
+total-append (b ∷ bs) cs = omega (arith, total-append bs cs)
+
+total-mirror : (bs : List Bool) → total (mirror bs) ≡ total bs
+unfolding total
+total-mirror [] = refl
+total-mirror (b ∷ bs) = omega (arith, total-append (mirror bs) (b ∷ []), total-mirror bs)
+
+total-is : (n x : ℕ) → total (bits n x) ≡ onesIn n x
+unfolding total onesIn
+total-is zero x = refl
+total-is (suc n) x = omega (arith, bit-is x, total-is n (x / 2))
+
+pub ones-of-mirrored : (v : ℕ) → onesIn 16 (mirrored v) ≡ onesIn 16 v
+ones-of-mirrored v = sym (total-is 16 (mirrored v)) ∙ ap total (mirrored-bits v) ∙ total-mirror (bits 16 v) ∙ total-is 16 v
 
 -- ---- a walk by its parts: a value where the list has a one
 abbrev parts : (ℕ → ℕ) → List Bool → ℕ → List (Option ℕ)
@@ -126,11 +150,6 @@ unfolding onesIn
 count-is g zero x k = refl
 count-is g (suc n) x k =
     omega (arith, count-first (eqb (x % 2) 1) (g k) (parts g (bits n (x / 2)) (plus k 1)), bit-is x, count-is g n (x / 2) (plus k 1))
-
-ones-bound : (n x : ℕ) → onesIn n x ≤ n
-unfolding onesIn
-ones-bound zero x = omega arith
-ones-bound (suc n) x = omega (arith, ones-bound n (x / 2))
 
 -- ---- parts that lie apart: b is d below a, and neither reaches the other in 2^24 bytes
 abbrev Apart : ℕ → ℕ → ℕ → ℕ → Type 0

@@ -1,7 +1,8 @@
 -- Movem.antt - MOVEM as walks along a list of 16 bits, lowest bit first: registers loaded, room asked, registers stored; and MOVEP's store.
 -- Choices: nothing past a list is read, and an empty list touches no operand [01 Operands]; a block that cannot be written faults at the
--- first of its writes in the manual's order, downward from A7 for -(An).
--- Laws: proofs/MovemLaws.antt, proofs/BlockLaws.antt, proofs/DownLaws.antt.  Source: [003 B MOVEM], [003 B MOVEP], [01 step 6], [01 Operands].
+-- first of its writes in the manual's order, downward from A7 for -(An): specs/Order.antt has that order.
+-- Laws: proofs/MovemLaws.antt, proofs/BlockLaws.antt.  Beside it: specs/Whole.antt, by which a block that lies in memory as a whole is told and stored.
+-- Source: [003 B MOVEM], [003 B MOVEP], [01 step 6], [01 Operands], [K6].
 use Prim.Native.Nat.{ℕ, _+_, _*_, _%_, _/_, _-_}
 use mathlib.Core.Bool.{Bool}
 use mathlib.Core.List.{List, [], _∷_}
@@ -102,8 +103,8 @@ mirrored-byte x = x % 2 * 128 + x / 2 % 2 * 64 + x / 4 % 2 * 32 + x / 8 % 2 * 16
 unfoldable pub mirrored : ℕ → ℕ
 mirrored x = mirrored-byte x * 256 + mirrored-byte (x / 256)
 
--- a plan's block as it is stored. That of -(An) goes upward too, from where An ended: no two of its parts meet, so that memory is the
--- same as after 003's order, block-put-down below  [003 B MOVEM] [01 Operands]
+-- a plan's block as it is stored, its start from the count of the list's ones. That of -(An) goes upward too, from where An ended: no two of
+-- its parts meet, so that memory is the same as after 003's order, block-put-down of specs/Order.antt  [003 B MOVEM] [01 Operands] [K6]
 unfoldable pub put-way : Plan → Way
 put-way p =
     let z = 1 + p .write % 2 in
@@ -134,14 +135,3 @@ put-one r p w t = record { held = put-part r p w (t .spot) (t .held); spot = nex
 -- memory after a block's writes  [003 B MOVEM] [003 B MOVEP]
 unfoldable pub block-put : List ℕ → List ℕ → Plan → List ℕ
 block-put m r p = let w = put-way p in iter (put-one r p w) 16 (record { held = m; spot = first-spot w (p .flow) }) .held
-
--- 003's own order for -(An), downward from A7 as the room was asked: bit k of the list is register 15 - k  [003 B MOVEM]
-unfoldable pub down-one : List ℕ → Plan → Way → Walk → Walk
-down-one r p w t =
-    let d = t .spot in
-    let v = stored r (p .at) (p .value / 65536) (15 - d .index) in
-    record { held = pick (listed d) (put-sized (t .held) (d .at) (w .size) v) (t .held); spot = next-spot w d (p .flow) }
-
--- memory after a block's writes in that order. Nothing runs it: block-put-is-down says that block-put leaves the same  [003 B MOVEM]
-unfoldable pub block-put-down : List ℕ → List ℕ → Plan → List ℕ
-block-put-down m r p = let w = room-way p in iter (down-one r p w) 16 (record { held = m; spot = first-spot w (p .flow) }) .held

@@ -4,12 +4,14 @@
 ghost use mathlib.Core.Path.{_≡_};
 ghost use Prim.Native.Nat.{_+_, _*_, _%_, _/_, _<_, _≤_};
 ghost use lib.ListN.{length};
-ghost use lib.Count.{onesIn};
 ghost use Rattle.bus.specs.Bus.{view-of};
 ghost use Rattle.touch.specs.Touch.{LogOk, Noted};
 ghost use Rattle.movem.specs.Movem.{first-spot, next-spot, load-one, load-list, movem-to-registers, movem-down, movem-to-memory};
 ghost use Rattle.movem.specs.Movem.{room-way, room-one, room-list, block-room, mirrored-byte, mirrored, put-way, stored, byte-of, part-of};
 ghost use Rattle.movem.specs.Movem.{put-part, block-put};
+
+mod whole;
+
 use bus::Flow;
 use codes::SLOTS;
 use plan::Plan;
@@ -111,28 +113,13 @@ pub fn movem_to_registers(r: &mut [u32; SLOTS], mem: &[u8], op: u32, f: Flow) ->
     plan::nothing(e)
 }
 
-// How many registers a list has.
-fn ones_of(list: u32) -> u32
-    ensures { λ n. ⌜ (n ≡ onesIn 16 list) × (n ≤ 16) ⌝ }
-{
-    let mut rest = list;
-    let mut n: u32 = 0;
-    let mut j: u32 = 0;
-    while j < 16 {
-        n += rest % 2;
-        rest /= 2;
-        j += 1;
-    }
-    n
-}
-
 // MOVEM to -(An): the plan has An's first value, the bank its last.
 fn movem_down(r: &mut [u32; SLOTS], list: u32, op: u32, f: Flow) -> Plan
     ensures { λ p. ⌜ record { r = now (r .exit); p = p } ≡ movem-down (now (r .entry)) list op f ⌝ }
 {
     let i = codes::A0 + op % 8;
     let a = operand::get(r, i);
-    let n = ones_of(list);
+    let n = bits::ones_of(list);
     operand::put(r, i, bits::minus(a, n * 2 * (1 + op / 64 % 2)));
     plan::writing(
         codes::BLOCK_DOWN + op / 64 % 2,
@@ -217,11 +204,16 @@ fn room_list(mem: &[u8], w: Way, f: Flow) -> Spot
     d
 }
 
-// The flow with the fault that the block's writes meet first, if any.
+// The flow with the fault that the block's writes meet first, if any. Where all of the block lies in memory none does, and no word of it is
+// asked for.
 pub fn block_room(mem: &[u8], p: Plan) -> Flow
     ensures { λ g. ⌜ g ≡ block-room (view-of (now (mem .entry))) p ⌝ }
 {
     let f = p.flow;
+    let whole = whole::fits(mem, p);
+    if whole {
+        return f;
+    }
     let d = room_list(mem, room_way(p), f);
     d.flow
 }
@@ -253,7 +245,7 @@ fn put_way(p: Plan) -> Way
     let z = 1 + p.write % 2;
     let down = p.write / 2 == codes::DOWNWARD;
     if down {
-        let n = ones_of(p.value);
+        let n = bits::ones_of(p.value);
         return Way {
             size: z,
             list: mirrored(p.value),
@@ -320,8 +312,8 @@ fn store_part(
     n
 }
 
-// The writes of a block, noted; how many entries the log then has.
-pub fn block_store(memory: &mut [u8], log: &mut [u64], n: usize, r: &[u32; SLOTS], p: Plan) -> usize
+// The writes of any block, noted, part by part as the walk comes to them; how many entries the log then has.
+fn store_list(memory: &mut [u8], log: &mut [u64], n: usize, r: &[u32; SLOTS], p: Plan) -> usize
     requires { ⌜ LogOk (now memory) (now log) n × (n + 64 ≤ length (now log)) ⌝ }
     ensures memory { λ _. ⌜ now (memory .exit) ≡ block-put (now (memory .entry)) (now (r .entry)) p ⌝ }
     ensures noted { λ m. ⌜ Noted (now (memory .entry)) (now (log .entry)) n 64 (now (memory .exit)) (now (log .exit)) m ⌝ }
@@ -337,4 +329,18 @@ pub fn block_store(memory: &mut [u8], log: &mut [u64], n: usize, r: &[u32; SLOTS
         j += 1;
     }
     m
+}
+
+// The writes of a block, noted; how many entries the log then has. One that lies in memory as a whole, above all that are noted, is the
+// common one: nothing more is asked for it.
+pub fn block_store(memory: &mut [u8], log: &mut [u64], n: usize, r: &[u32; SLOTS], p: Plan) -> usize
+    requires { ⌜ LogOk (now memory) (now log) n × (n + 64 ≤ length (now log)) ⌝ }
+    ensures memory { λ _. ⌜ now (memory .exit) ≡ block-put (now (memory .entry)) (now (r .entry)) p ⌝ }
+    ensures noted { λ m. ⌜ Noted (now (memory .entry)) (now (log .entry)) n 64 (now (memory .exit)) (now (log .exit)) m ⌝ }
+{
+    let w = put_way(p);
+    if whole::fits(memory, p) & touch::above(log, n, w.start % codes::ADDRESSES) {
+        return whole::store_whole(memory, log, n, r, p);
+    }
+    store_list(memory, log, n, r, p)
 }

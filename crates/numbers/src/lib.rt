@@ -22,6 +22,32 @@ pub fn put_small(journal: &mut [u8], at: usize, v: u32) -> usize
     at + 1
 }
 
+// Writes v, a byte's value, at place at; returns the place after it.
+pub fn put_byte(journal: &mut [u8], at: usize, v: u32) -> usize
+    requires { ⌜ (v < 256) × (at + length (number-bytes v) ≤ length (now journal)) ⌝ }
+    ensures next { λ r. ⌜ r ≡ at + length (number-bytes v) ⌝ }
+    ensures bytes { λ _. ⌜ now (journal .exit) ≡ written (now (journal .entry)) at (number-bytes v) ⌝ }
+{
+    if v < 128 {
+        return put_small(journal, at, v);
+    }
+    journal[at] = 1;
+    journal[at + 1] = v as u8;
+    at + 2
+}
+
+// Writes v, which fits in three bytes and not in two, at place at; returns the place after it.
+fn put_three(journal: &mut [u8], at: usize, v: u32) -> usize
+    requires { ⌜ (16384 ≤ v) × (v < 2097152) × (at + length (number-bytes v) ≤ length (now journal)) ⌝ }
+    ensures next { λ r. ⌜ r ≡ at + length (number-bytes v) ⌝ }
+    ensures bytes { λ _. ⌜ now (journal .exit) ≡ written (now (journal .entry)) at (number-bytes v) ⌝ }
+{
+    journal[at] = (v / 16384) as u8;
+    journal[at + 1] = (v / 128 % 128 + 128) as u8;
+    journal[at + 2] = (v % 128 + 128) as u8;
+    at + 3
+}
+
 // Writes v at place at; returns the place after it.
 pub fn put_number(journal: &mut [u8], at: usize, v: u32) -> usize
     requires { ⌜ at + length (number-bytes v) ≤ length (now journal) ⌝ }
@@ -37,10 +63,7 @@ pub fn put_number(journal: &mut [u8], at: usize, v: u32) -> usize
         return at + 2;
     }
     if v < 2097152 {
-        journal[at] = (v / 16384) as u8;
-        journal[at + 1] = (v / 128 % 128 + 128) as u8;
-        journal[at + 2] = (v % 128 + 128) as u8;
-        return at + 3;
+        return put_three(journal, at, v);
     }
     if v < 268435456 {
         journal[at] = (v / 2097152) as u8;
@@ -55,6 +78,21 @@ pub fn put_number(journal: &mut [u8], at: usize, v: u32) -> usize
     journal[at + 3] = (v / 128 % 128 + 128) as u8;
     journal[at + 4] = (v % 128 + 128) as u8;
     at + 5
+}
+
+// Writes v, a place in memory, at place at; returns the place after it. Most are of three bytes, and are told by two questions.
+pub fn put_place(journal: &mut [u8], at: usize, v: u32) -> usize
+    requires { ⌜ at + length (number-bytes v) ≤ length (now journal) ⌝ }
+    ensures next { λ r. ⌜ r ≡ at + length (number-bytes v) ⌝ }
+    ensures bytes { λ _. ⌜ now (journal .exit) ≡ written (now (journal .entry)) at (number-bytes v) ⌝ }
+{
+    if v < 16384 {
+        return put_number(journal, at, v);
+    }
+    if v < 2097152 {
+        return put_three(journal, at, v);
+    }
+    put_number(journal, at, v)
 }
 
 // The last group, whose byte is b, after the groups before it.

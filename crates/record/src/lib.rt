@@ -4,13 +4,15 @@
 pub mod limits;
 
 use limits::SLOT_LIMIT;
+use numbers::put_byte;
 use numbers::put_number;
+use numbers::put_place;
 use numbers::put_small;
 ghost use mathlib.Core.Path.{_≡_};
 ghost use Prim.Native.Nat.{_+_, _*_, _≤_, _<_, _^_};
 ghost use lib.ListN.{length};
 ghost use Rattle.numbers.specs.Number.{written};
-ghost use Rattle.record.specs.Change.{changed, AllPut, diffs, restore, kept, Ascending, changes, change-bytes, changes-bytes, step-record};
+ghost use Rattle.record.specs.Change.{AllPut, diffs, restore, kept, Ascending, ByteOlds, changes, change-bytes, changes-bytes, step-record};
 ghost use Rattle.record.specs.Mask.{mask};
 ghost use Rattle.record.specs.Limits.{slot-limit};
 
@@ -20,31 +22,14 @@ pub struct Put {
     pub count: u32,
 }
 
-// Writes one change at place at.
+// Writes one change of a byte at place at.
 fn put_change(journal: &mut [u8], at: usize, place: u32, old: u32) -> usize
-    requires { ⌜ at + length (change-bytes (record { place = place; old = old })) ≤ length (now journal) ⌝ }
+    requires { ⌜ (old < 256) × (at + length (change-bytes (record { place = place; old = old })) ≤ length (now journal)) ⌝ }
     ensures next { λ r. ⌜ r ≡ at + length (change-bytes (record { place = place; old = old })) ⌝ }
     ensures bytes { λ _. ⌜ now (journal .exit) ≡ written (now (journal .entry)) at (change-bytes (record { place = place; old = old })) ⌝ }
 {
-    let p = put_number(journal, at, place);
-    put_number(journal, p, old)
-}
-
-// Writes the change at a place, if there is one.
-fn put_changed(journal: &mut [u8], put: Put, place: u32, old: u32, new: u32) -> Put
-    requires { ⌜ (put .count + 1 < 2 ^ 32) × (put .at + length (changes-bytes (changed place old new)) ≤ length (now journal)) ⌝ }
-    ensures next { λ r. ⌜ r .at ≡ put .at + length (changes-bytes (changed place old new)) ⌝ }
-    ensures count { λ r. ⌜ r .count ≡ put .count + length (changed place old new) ⌝ }
-    ensures bytes { λ _. ⌜ now (journal .exit) ≡ written (now (journal .entry)) (put .at) (changes-bytes (changed place old new)) ⌝ }
-{
-    if old == new {
-        return put;
-    }
-    let at = put_change(journal, put.at, place, old);
-    Put {
-        at,
-        count: put.count + 1,
-    }
+    let p = put_place(journal, at, place);
+    put_byte(journal, p, old)
 }
 
 // The slots that differ, one bit each, slot 0 in bit 1. The weights begin at 2: then the compiler compares four slots at once.
@@ -87,26 +72,26 @@ fn put_slots(journal: &mut [u8], at: usize, old: &[u32; SLOT_LIMIT], new: &[u32;
 }
 
 // Writes the changes of a log whose old value the memory does not hold any more.
+// The place and the count are two locals, not a Put that is handed through: then the compiler keeps them in registers.
 fn put_bytes(journal: &mut [u8], at: usize, memory: &[u8], log: &[u64], n: usize) -> Put
-    requires { ⌜ (n ≤ length (now log)) × (n < 2 ^ 32) × Ascending 0 (length (now memory)) (changes (now log) n) ⌝ }
+    requires { ⌜ (n ≤ length (now log)) × (n < 2 ^ 32) × Ascending 0 (length (now memory)) (changes (now log) n) × ByteOlds (changes (now log) n) ⌝ }
     requires { ⌜ at + length (changes-bytes (kept (now memory) (changes (now log) n))) ≤ length (now journal) ⌝ }
     ensures { λ r. ⌜ AllPut (now (journal .entry)) at (kept (now (memory .entry)) (changes (now (log .entry)) n)) (now (journal .exit)) r ⌝ }
 {
-    let mut put = Put { at, count: 0 };
+    let mut next = at;
+    let mut count: u32 = 0;
     let mut i = 0;
     while i < n {
         let e = log[i];
         let a = (e / 4294967296) as usize;
-        put = put_changed(
-            journal,
-            put,
-            (e / 4294967296) as u32,
-            (e % 4294967296) as u32,
-            memory[a] as u32,
-        );
+        let old = (e % 4294967296) as u32;
+        if old != (memory[a] as u32) {
+            next = put_change(journal, next, (e / 4294967296) as u32, old);
+            count += 1;
+        }
         i += 1;
     }
-    put
+    Put { at: next, count }
 }
 
 // Writes the record of a step at the mark, and returns the new mark. The log has each place that was written, with its value before the step.
@@ -121,7 +106,7 @@ pub fn put_record(
     log: &[u64],
     n: usize,
 ) -> usize
-    requires { ⌜ (n ≤ length (now log)) × (n < 2 ^ 32) × Ascending 0 (length (now memory)) (changes (now log) n) ⌝ }
+    requires { ⌜ (n ≤ length (now log)) × (n < 2 ^ 32) × Ascending 0 (length (now memory)) (changes (now log) n) × ByteOlds (changes (now log) n) ⌝ }
     requires { ⌜ mark + length (step-record (now old) (now new) (restore (changes (now log) n) (now memory)) (now memory)) ≤ length (now journal) ⌝ }
     ensures next { λ r. ⌜ r ≡ mark + length (step-record (now (old .entry)) (now (new .entry)) (restore (changes (now (log .entry)) n) (now (memory .entry))) (now (memory .entry))) ⌝ }
     ensures bytes { λ _. ⌜ now (journal .exit) ≡ written (now (journal .entry)) mark (step-record (now (old .entry)) (now (new .entry)) (restore (changes (now (log .entry)) n) (now (memory .entry))) (now (memory .entry))) ⌝ }

@@ -1,4 +1,5 @@
 use Rattle.movem.proofs.MovemLaws.{block-room-is}
+use Rattle.movem.proofs.FitsLaws.{room-whole}
 use borrow.Author.Needs.{needs}
 use Rattle.movem.proofs.block_room.Statement.{statement}
 use Rattle.movem.proofs.block_room.Tie as tie
@@ -6,4 +7,4 @@ use Rattle.movem.proofs.block_room.Tie as tie
 pub block-room-spec : {M : Type 1} → statement M
 block-room-spec =
     tie.close (tie.spec
-    (λ c κs. search needs) (λ c κs. search needs) (λ c. search block-room-is))
+    (λ c κs. search needs) (λ c. search room-whole) (λ c κs. search needs) (λ c κs. search needs) (λ c. search block-room-is))

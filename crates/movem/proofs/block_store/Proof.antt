@@ -1,18 +1,33 @@
-use Prim.Native.Nat.{_-_}
+-- block_store: the whole of it at once, or part by part.
+use denote.Ref.{now}
 use borrow.Author.Needs.{needs}
-use Rattle.movem.proofs.BlockLaws.{Storing, storing-start, storing-room, storing-again, storing-memory, storing-noted}
+use Rattle.touch.proofs.TouchLaws.{log-order}
+use Rattle.movem.proofs.ValueLaws.{whole-taken}
 use Rattle.movem.proofs.block_store.Statement.{statement}
 use Rattle.movem.proofs.block_store.Tie as tie
 
-abbrev Inv-loop : tie.InvT-loop
-Inv-loop memory₀ log₀ n r p f w d₀ m₀ j₀ memory log d m j = Storing r p w memory₀ log₀ n d₀ j memory log m d
-
-abbrev μ-loop : tie.MeasureT-loop
-μ-loop memory₀ log₀ n r p f w d₀ m₀ j₀ memory log d m j = 16 - j
+store-whole-requires : tie.Need-store-whole-requires
+store-whole-requires c κs =
+    let a = c .before .before .before in
+    let t = c .before .before .if1 .taken in
+    let f = a .before .before .before in
+    let s = f .before .before .before .before .before in
+    let z = s .args in
+    let w = f .before .before .put-way .ensures in
+    (s .pre, whole-taken (now (z .memory)) (now (z .log)) (z .n) (z .p) _ _ _ w (f .fits2 .ensures) (a .above .ensures) t)
 
 pub block-store-spec : {M : Type 1} → statement M
 block-store-spec =
-    tie.close (tie.spec
-    Inv-loop μ-loop (λ c κs. search needs) (λ c κs. search needs) (λ c. search storing-start) (λ c κs. (search needs, search storing-room))
-    (λ c κs. search needs) (λ c. search needs) (λ c. search needs) (λ c. search storing-again) (λ c. search needs) (λ c. search needs)
-    (λ c. (search storing-memory, search storing-noted)))
+    tie.close
+    (tie.spec
+    (λ c κs. search needs)
+    (λ c κs. search needs)
+    (λ c κs. search (needs, log-order))
+    store-whole-requires
+    (λ c. search needs)
+    (λ c. search needs)
+    (λ c. search needs)
+    (λ c κs. search needs)
+    (λ c. search needs)
+    (λ c. search needs)
+    (λ c. search needs))

@@ -6,7 +6,7 @@ use native.Mathlib.Omega.{arith}
 use lib.ListN.{length, length-set}
 use borrow.Author.Needs.{needs}
 use Rattle.numbers.specs.Number.{number-bytes}
-use Rattle.numbers.proofs.PutLaws.{number-bytes-two, number-bytes-three, number-bytes-four, number-bytes-five, put-each}
+use Rattle.numbers.proofs.PutLaws.{number-bytes-two, number-bytes-four, number-bytes-five, put-each}
 use Rattle.numbers.proofs.put_number.Statement.{statement}
 use Rattle.numbers.proofs.put_number.Tie as tie
 
@@ -26,9 +26,6 @@ rest-five v = (v / 2097152 % 128 + 128) ∷ rest-four v
 two : (c : tie.Then2) → let v = c .before .before .before .args .v in number-bytes v ≡ v / 128 ∷ rest-two v
 two c = number-bytes-two (c .before .before .before .args .v) (c .before .if1 .left) (c .if2 .taken)
 
-three : (c : tie.Then3) → let v = c .before .before .before .before .args .v in number-bytes v ≡ v / 16384 ∷ rest-three v
-three c = number-bytes-three (c .before .before .before .before .args .v) (c .before .if2 .left) (c .if3 .taken)
-
 four : (c : tie.Then4) → let v = c .before .before .before .before .before .args .v in number-bytes v ≡ v / 2097152 ∷ rest-four v
 four c = number-bytes-four (c .before .before .before .before .before .args .v) (c .before .if3 .left) (c .if4 .taken)
 
@@ -41,10 +38,7 @@ put-number-spec =
     (λ c κs. search needs) (λ c. search needs) (λ c. search needs) (λ c. search needs) (λ c. omega (arith, ap length (two c)))
     (λ c. search needs) (λ c. search needs) (λ c. search needs) (λ c. simp length-set (omega (arith, ap length (two c))))
     (λ c. search needs) (λ c. search needs) (λ c. put-each _ _ _ _ _ (two c) (c .before .before .before .pre))
-    (λ c. search needs) (λ c. omega (arith, ap length (three c)))
-    (λ c. search needs) (λ c. search needs) (λ c. search needs) (λ c. simp length-set (omega (arith, ap length (three c))))
-    (λ c. search needs) (λ c. search needs) (λ c. search needs) (λ c. simp length-set (omega (arith, ap length (three c))))
-    (λ c. search needs) (λ c. search needs) (λ c. put-each _ _ _ _ _ (three c) (c .before .before .before .before .pre))
+    (λ c κs. search needs) (λ c. search needs) (λ c. search needs)
     (λ c. search needs) (λ c. omega (arith, ap length (four c)))
     (λ c. search needs) (λ c. search needs) (λ c. search needs) (λ c. simp length-set (omega (arith, ap length (four c))))
     (λ c. search needs) (λ c. search needs) (λ c. search needs) (λ c. simp length-set (omega (arith, ap length (four c))))

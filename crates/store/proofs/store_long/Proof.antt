@@ -1,6 +1,5 @@
--- store_long: two noted puts, one after the other: of words that are above all that are noted, or of any.
+-- store_long: a noted put above all that are noted, or two of words, one after the other.
 use Prim.Native.Nat.{_+_, _<_}
-use native.Mathlib.Omega.{arith}
 use denote.Ref.{now}
 use lib.ListN.{length}
 use lib.Dec.{ltb}
@@ -10,7 +9,7 @@ use Rattle.bits.proofs.BitsLaws.{and-left, and-right}
 use Rattle.bus.specs.Bus.{pins}
 use Rattle.touch.specs.Touch.{AllBelow}
 use Rattle.touch.proofs.TouchLaws.{log-order}
-use Rattle.store.proofs.StoreLaws.{stored-long, stored-long-above}
+use Rattle.store.proofs.StoreLaws.{stored-long, stored-above}
 use Rattle.store.proofs.store_long.Statement.{statement}
 use Rattle.store.proofs.store_long.Tie as tie
 
@@ -25,22 +24,13 @@ module _ (c : tie.Then1) where
       let b = c .before .above in
       (ltb-true _ _ (and-left a (b .result) (c .if1 .taken)), b .ensures (and-right a (b .result) (c .if1 .taken)))
 
-word-above-requires : tie.Need-word-above-requires
-word-above-requires c κs =
+long-above-requires : tie.Need-long-above-requires
+long-above-requires c κs =
     let b = c .before .before in
-    (omega (arith, test b .0), omega arith, s b .pre .0, test b .1)
-
-word-above-requires-2 : tie.Need-word-above-requires-2
-word-above-requires-2 c κs =
-    let b = c .before .before .before .before .before .before .before .before .before in
-    let g = c .before .before .before .before .before .before .word-above .ensures .1 in
-    (omega (arith, test b .0, g .0 .same), omega (arith, g .0 .long), g .0 .ok, g .1)
+    (test b .0, s b .pre .1, s b .pre .0, test b .1)
 
 returns : tie.Need-returns
-returns c =
-    let g = c .before .before .before .before .before .before .before .before .before .before .before .word-above in
-    let h = c .before .before .before .before .word-above2 in
-    stored-long-above _ _ _ _ _ _ _ _ _ (g .ensures) (h .ensures)
+returns c = stored-above _ _ _ _ _ _ _ (c .before .before .before .before .long-above .ensures)
 
 returns-2 : tie.Need-returns-2
 returns-2 c =
@@ -56,10 +46,7 @@ store-long-spec =
     (λ c. search needs)
     (λ c. search needs)
     (λ c κs. search (needs, log-order))
-    word-above-requires
-    (λ c. search needs)
-    (λ c. search needs)
-    word-above-requires-2
+    long-above-requires
     (λ c. search needs)
     (λ c. search needs)
     (λ c. search needs)

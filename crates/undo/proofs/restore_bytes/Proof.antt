@@ -1,6 +1,6 @@
 -- restore_bytes: what is left of the log, put back now, gives all of it put back.
 use native.Mathlib.Nat.{mod-eq-of-lt}
-use Rattle.undo.proofs.JudgeLaws.{restore-next, olds-at}
+use Rattle.undo.proofs.JudgeLaws.{restore-next}
 use Rattle.undo.proofs.ReadLaws.{between-past}
 use Prim.Native.Nat.{ℕ, _-_, _/_, _%_, _^_, _≤_, _<_}
 use native.Mathlib.Omega.{arith}
@@ -9,7 +9,7 @@ use mathlib.Core.List.{List}
 use denote.Ref.{now}
 use lib.ListN.{length, getD, length-set}
 use Rattle.record.specs.Change.{Change, restore, between, changes}
-use Rattle.record.proofs.ChangeLaws.{ascending-at}
+use Rattle.record.proofs.ChangeLaws.{ascending-at, olds-at}
 use borrow.Author.Needs.{needs}
 use Rattle.undo.proofs.restore_bytes.Statement.{statement}
 use Rattle.undo.proofs.restore_bytes.Tie as tie

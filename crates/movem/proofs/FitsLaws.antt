@@ -1,0 +1,191 @@
+-- FitsLaws.antt - a block that fits, by its start and its count, has only words that can be written: no word of it need be asked for.
+-- fits-when (what fits says); fits-is, span-fits (what the function fits owes); block-room-when-fits.
+-- Uses: bits, bus, plan.
+use Prim.Native.Nat.{ℕ, zero, suc, _+_, _*_, _%_, _/_, _<_, _≤_, _^_}
+use native.Mathlib.Omega.{arith}
+use native.Mathlib.Nat.{mul-le-mul-right}
+use mathlib.Core.Path.{_≡_, refl, sym, ap, _∙_}
+use mathlib.Core.Bool.{Bool, true, false, _&&_}
+use mathlib.Core.List.{List, [], _∷_, _++_}
+use lib.ListN.{length}
+use lib.Dec.{ltb, leb, eqb}
+use lib.Count.{onesIn}
+use borrow.Author.Tests.{eqb-true, eqb-false, eq-eqb, ne-eqb, ltb-true, leb-true, lt-ltb}
+use Rattle.bits.specs.Bits.{plus, minus}
+use Rattle.bits.proofs.BitsLaws.{and-left, and-right}
+use Rattle.bits.proofs.OnesLaws.{ones-bound, ones-low}
+use Rattle.bus.specs.Bus.{View, view-of, pins}
+use Rattle.plan.specs.declared.Plan.{Plan}
+use Rattle.movem.specs.declared.Way.{Way}
+use Rattle.movem.specs.Movem.{room-way, mirrored, put-way, block-room}
+use Rattle.movem.specs.Whole.{fits}
+use Rattle.movem.specs.Order.{part-words, words-along, block-words, writable, all-writable}
+use Rattle.movem.proofs.OrderLaws.{Words, block-room-when-writable}
+
+both : {a b : Bool} → a ≡ true → b ≡ true → (a && b) ≡ true
+both e g = rw (e, g)
+
+all-append : (v : View) (us bs : List ℕ) → all-writable v us ≡ true → all-writable v bs ≡ true → all-writable v (us ++ bs) ≡ true
+all-append v [] bs h g = g
+all-append v (a ∷ us) bs h g =
+    both (and-left (writable v a) (all-writable v us) h) (all-append v us bs (and-right (writable v a) (all-writable v us) h) g)
+
+-- a walk down over an even number of bytes: where its last part begins, that part's place, and the part below it
+last-at : (a c y z : ℕ) → (a + (z + y)) % 2 ^ 32 ≡ (c + z) % 2 ^ 32 → (a + y) % 2 ^ 32 ≡ c % 2 ^ 32
+last-at a c y z h = omega arith
+
+last-place : (a c y : ℕ) → (a + y) % 2 ^ 32 ≡ c % 2 ^ 32 → pins a % 2 ≡ 0 → y % 2 ≡ 0 → (pins c % 2 ≡ 0) × (pins c ≤ pins a + y)
+last-place a c y h e g = (omega arith, omega arith)
+
+up-again : (a x : ℕ) → x ≤ 2 ^ 32 → (minus a x + x) % 2 ^ 32 ≡ a % 2 ^ 32
+up-again a x h = omega arith
+
+even-times : (n k : ℕ) → n * (2 * (1 + k)) % 2 ≡ 0
+even-times n k = omega arith
+
+room-above : (c a y z len : ℕ) → c ≤ a + y → a + (z + y) ≤ len → c + z ≤ len
+room-above c a y z len h l = omega arith
+
+next-below : (c z : ℕ) → z ≤ 4 → c % 2 ^ 32 ≡ (plus c (minus 0 z) + z) % 2 ^ 32
+next-below c z h = omega arith
+
+module _ (m : List ℕ) where
+  word-writable : (a : ℕ) → pins a % 2 ≡ 0 → pins a + 2 ≤ length m → writable (view-of m) a ≡ true
+  unfolding view-of
+  word-writable a e h = both (eq-eqb (pins a % 2) 0 e) (lt-ltb (pins a + 1) (length m) (omega arith))
+
+  part-writable : (k : ℕ) → k < 2 → (a : ℕ) → pins a % 2 ≡ 0 → pins a + 2 * (1 + k) ≤ length m
+      → all-writable (view-of m) (part-words (1 + k) a) ≡ true
+  part-writable zero i a e h = both (word-writable a e (omega arith)) refl
+  part-writable (suc zero) i a e h = both (word-writable a e (omega arith)) (both (word-writable (plus a 2) (omega arith) (omega arith)) refl)
+  part-writable (suc (suc k)) i a e h = absurd (omega arith)
+
+  module _ (k : ℕ) (i : k < 2) where
+    -- n parts upward from a
+    up-writable : (n a : ℕ) → pins a % 2 ≡ 0 → pins a + n * (2 * (1 + k)) ≤ length m
+        → all-writable (view-of m) (words-along (1 + k) (2 * (1 + k)) a n) ≡ true
+    up-writable zero a e h = refl
+    up-writable (suc n) a e h =
+        all-append (view-of m) (part-words (1 + k) a) (words-along (1 + k) (2 * (1 + k)) (plus a (2 * (1 + k))) n)
+        (part-writable k i a e (omega arith))
+        (up-writable n (plus a (2 * (1 + k))) (omega arith) (omega arith))
+
+    -- n parts downward from c, of which the lowest is at a
+    down-writable : (n a c : ℕ) → pins a % 2 ≡ 0 → pins a + n * (2 * (1 + k)) ≤ length m
+        → (a + n * (2 * (1 + k))) % 2 ^ 32 ≡ (c + 2 * (1 + k)) % 2 ^ 32 → all-writable (view-of m) (words-along (1 + k) (minus 0 (2 * (1 + k))) c n) ≡ true
+    down-writable zero a c e h g = refl
+    down-writable (suc n) a c e h g =
+        let y = n * (2 * (1 + k)) in
+        let s : suc n * (2 * (1 + k)) ≡ 2 * (1 + k) + y = omega arith in
+        let l : pins a + (2 * (1 + k) + y) ≤ length m = rw s at h in
+        let at = last-at a c y (2 * (1 + k)) (rw s at g) in
+        let p = last-place a c y at e (even-times n k) in
+        all-append (view-of m) (part-words (1 + k) c) (words-along (1 + k) (minus 0 (2 * (1 + k))) (plus c (minus 0 (2 * (1 + k)))) n)
+        (part-writable k i c (p .0) (room-above (pins c) (pins a) y (2 * (1 + k)) (length m) (p .1) l))
+        (down-writable n a (plus c (minus 0 (2 * (1 + k)))) e (omega (arith, l)) (at ∙ next-below c (2 * (1 + k)) (omega arith)))
+
+-- the ways of a block of words: upward, or downward from A7
+module _ (p : Plan) (h : Words p) where
+  pub way-up : p .write / 2 ≡ 2
+      → put-way p ≡ record { size = 1 + p .write % 2; list = p .value % 65536; start = p .at; step = 2 * (1 + p .write % 2) }
+  unfolding put-way room-way
+  way-up e = rw (ne-eqb (p .write / 2) 3 (omega arith), eq-eqb (p .write / 2) 2 e)
+
+  pub way-down : p .write / 2 ≡ 3
+      → put-way p ≡ record {
+        size = 1 + p .write % 2;
+        list = mirrored (p .value);
+        start = minus (p .at) (onesIn 16 (p .value) * 2 * (1 + p .write % 2));
+        step = 2 * (1 + p .write % 2);
+      }
+  unfolding put-way
+  way-down e = rw (eq-eqb (p .write / 2) 3 e)
+
+module _ (p : Plan) (h : Words p) where
+  pub way-sizes : (put-way p .size ≡ 1 + p .write % 2) × (put-way p .step ≡ 2 * (1 + p .write % 2))
+  way-sizes = go (eqb (p .write / 2) 2) refl
+    where
+      go : (b : Bool) → eqb (p .write / 2) 2 ≡ b → (put-way p .size ≡ 1 + p .write % 2) × (put-way p .step ≡ 2 * (1 + p .write % 2))
+      go true e = let w = way-up p h (eqb-true (p .write / 2) 2 e) in (ap (λ (x : Way). x .size) w, ap (λ (x : Way). x .step) w)
+      go false e =
+          let w = way-down p h (omega (arith, eqb-false (p .write / 2) 2 e)) in (ap (λ (x : Way). x .size) w, ap (λ (x : Way). x .step) w)
+
+-- what fits says
+pub record FitsIn (len : ℕ) (p : Plan) : Type 0 where
+  pub words : Words p
+  pub even : put-way p .start % 2 ≡ 0
+  pub inside : pins (put-way p .start) + onesIn 16 (p .value) * put-way p .step ≤ len
+
+pub fits-when : (len : ℕ) (p : Plan) → fits len p ≡ true → FitsIn len p
+unfolding fits
+fits-when len p h =
+    let w = put-way p in
+    let ws = leb 4 (p .write) && ltb (p .write) 8 in
+    let e = eqb (w .start % 2) 0 in
+    let n = leb (pins (w .start) + onesIn 16 (p .value) * w .step) len in
+    let l = and-left (ws && e) n h in
+    record {
+      words = (
+        leb-true 4 (p .write) (and-left (leb 4 (p .write)) (ltb (p .write) 8) (and-left ws e l)),
+        ltb-true (p .write) 8 (and-right (leb 4 (p .write)) (ltb (p .write) 8) (and-left ws e l)),
+      );
+      even = eqb-true (w .start % 2) 0 (and-right ws e l);
+      inside = leb-true _ len (and-right (ws && e) n h);
+    }
+
+fitting-up : (m : List ℕ) (p : Plan) → FitsIn (length m) p → p .write / 2 ≡ 2 → all-writable (view-of m) (block-words p) ≡ true
+unfolding block-words room-way
+fitting-up m p f e =
+    let w = way-up p (f .words) e in
+    let q = ones-low 16 (p .value) in
+    rw (eq-eqb (p .write / 2) 2 e, q)
+    (up-writable m (p .write % 2) (omega arith) (onesIn 16 (p .value)) (p .at)
+    (omega (arith, rw w at (f .even))) (rw w at (f .inside)))
+
+fitting-down : (m : List ℕ) (p : Plan) → FitsIn (length m) p → p .write / 2 ≡ 3 → all-writable (view-of m) (block-words p) ≡ true
+unfolding block-words room-way
+fitting-down m p f e =
+    let w = way-down p (f .words) e in
+    let q = ones-low 16 (p .value) in
+    let z = 2 * (1 + p .write % 2) in
+    let n = onesIn 16 (p .value) in
+    let few : n * (1 + p .write % 2) ≤ 16 * (1 + p .write % 2) = mul-le-mul-right (1 + p .write % 2) (ones-bound 16 (p .value)) in
+    let all : n * 2 * (1 + p .write % 2) ≡ n * z = omega arith in
+    let up = up-again (p .at) (n * z) (omega (arith, few)) ∙ sym (up-again (p .at) z (omega arith)) in
+    let meet = ap (λ (x : ℕ). (x + n * z) % 2 ^ 32) (ap (minus (p .at)) all) ∙ up in
+    rw (ne-eqb (p .write / 2) 2 (omega arith), eq-eqb (p .write / 2) 3 e, q)
+    (down-writable m (p .write % 2) (omega arith) n (minus (p .at) (n * 2 * (1 + p .write % 2))) (minus (p .at) z)
+    (omega (arith, rw w at (f .even))) (rw w at (f .inside)) meet)
+
+-- ---- what the function owes
+step-bound : (p : Plan) → put-way p .step ≤ 4
+unfolding put-way room-way
+step-bound p = go (eqb (p .write / 2) 3) (eqb (p .write / 2) 2) refl refl
+  where
+    go : (b c : Bool) → eqb (p .write / 2) 3 ≡ b → eqb (p .write / 2) 2 ≡ c → put-way p .step ≤ 4
+    go true c e g = rw e (omega arith)
+    go false true e g = rw (e, g) (omega arith)
+    go false false e g = rw (e, g) (omega arith)
+
+pub span-bound : (p : Plan) (w : Way) (n : ℕ) → w ≡ put-way p → (n ≡ onesIn 16 (p .value)) × (n ≤ 16) → n * w .step ≤ 64
+span-bound p w n e h =
+    let s : w .step ≤ 4 = rw e (step-bound p) in
+    let b : n * w .step ≤ 16 * w .step = mul-le-mul-right (w .step) (h .1) in omega arith
+
+pub fits-is : (len : ℕ) (p : Plan) (w : Way) (n : ℕ) → w ≡ put-way p → (n ≡ onesIn 16 (p .value)) × (n ≤ 16)
+    → (((leb 4 (p .write) && ltb (p .write) 8) && eqb (w .start % 2) 0) && leb (pins (w .start) + n * w .step) len) ≡ fits len p
+unfolding fits
+fits-is len p w n e h = let q = h .0 in cc
+
+-- a block that fits: no write of it meets a fault
+pub block-room-when-fits : (m : List ℕ) (p : Plan) → fits (length m) p ≡ true → block-room (view-of m) p ≡ p .flow
+block-room-when-fits m p h =
+    let f = fits-when (length m) p h in
+    block-room-when-writable (view-of m) p (f .words) (go f (eqb (p .write / 2) 2) refl)
+  where
+    go : FitsIn (length m) p → (b : Bool) → eqb (p .write / 2) 2 ≡ b → all-writable (view-of m) (block-words p) ≡ true
+    go f true e = fitting-up m p f (eqb-true (p .write / 2) 2 e)
+    go f false e = fitting-down m p f (omega (arith, f .words, eqb-false (p .write / 2) 2 e))
+
+pub room-whole : (m : List ℕ) (p : Plan) (b : Bool) → b ≡ fits (length m) p → b ≡ true → p .flow ≡ block-room (view-of m) p
+room-whole m p b e t = sym (block-room-when-fits m p (sym e ∙ t))
