@@ -1,5 +1,4 @@
 pub mod ValidLaws
-pub mod NumberLaws
 pub mod RefusalLaws
 pub mod FormedLaws
 pub mod StatusLaws

@@ -1,5 +1,5 @@
 -- ExceptionLaws.antt - one law for each return of the functions of exception.
--- small-room-is, small-ready-is, enter-is, exception-.. (slots, memory, event), exception-halts-.., and the same of faults; noted-still.
+-- small-room-is, small-ready-is, enter-is, exception-.. (slots, memory, event), exception-halts-.., and the same of faults.
 -- Uses: bits, bus, touch, bank, frames.
 use Prim.Native.Nat.{ℕ, _+_, _*_, _%_, _<_, _^_}
 use native.Mathlib.Omega.{arith}
@@ -13,8 +13,6 @@ use Rattle.bank.specs.Bank.{long, ssp-of, pc-of, sr-of}
 use Rattle.bus.specs.declared.Flow.{Flow}
 use Rattle.bus.specs.declared.Fetched.{Fetched}
 use Rattle.bus.specs.Bus.{View, view-of, read-long, room}
-use Rattle.touch.specs.Touch.{LogOk, Noted}
-use Rattle.touch.proofs.TouchLaws.{noted-none, noted-then}
 use Rattle.frames.specs.Frames.{small-frame, big-frame}
 use Rattle.exception.specs.Exceptions.{fresh, supervisor-sr, small-room, big-room, handler, can-enter, small-ready, big-ready, enter, exception, fault-taken, fault}
 
@@ -115,7 +113,3 @@ module _ (s m : List ℕ) (bad op : ℕ) where
       pub fault-halts-event : 257 ≡ fault s m bad op .event
       unfolding fault
       fault-halts-event = cc
-
--- nothing is written, and nothing noted
-pub noted-still : (m l : List ℕ) (n k : ℕ) → LogOk m l n → Noted m l n k m l n
-noted-still m l n k ok = let none = noted-none m l n ok in noted-then m l n 0 m l n 0 m l n k (omega arith) none none

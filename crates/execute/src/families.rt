@@ -1,6 +1,6 @@
 // families.rt - the kinds by families: each with its function, and the line of Appendix D that it takes.
 // Means: specs/Dispatch.antt, specs/Lines.antt of clocks.  Laws: proofs/ClockLaws.antt, proofs/DispatchLaws.antt.
-// Uses: codes, bits, bus, plan, clocks, movement, movem, integer, bitwise, control, system.  Source: [003 3], [003 D], [K2].
+// Uses: codes, bits, bus, plan, timing, movement, movem, integer, bitwise, control, system.  Source: [003 3], [003 D], [K2].
 ghost use mathlib.Core.Path.{_≡_};
 ghost use Prim.Native.Nat.{_+_, _<_};
 ghost use Rattle.bus.specs.Bus.{view-of};
@@ -46,31 +46,31 @@ pub fn movement_kind(j: u32, r: &mut [u32; SLOTS], mem: &[u8], op: u32, f: Flow)
     ensures { λ t. ⌜ t .clocks ≡ clocks (Move + j) (now (r .entry)) (view-of (now (mem .entry))) op f ⌝ }
 {
     match j {
-        0 => taking(clocks::moved(op), movement::move_data(r, mem, op, f)),
-        1 => taking(clocks::moved(op), movement::move_address(r, mem, op, f)),
+        0 => taking(timing::moved(op), movement::move_data(r, mem, op, f)),
+        1 => taking(timing::moved(op), movement::move_address(r, mem, op, f)),
         2 => taking(4, movement::move_quick(r, mem, op, f)),
         3 => taking(
-            clocks::stored(4, 8, mem, op, f),
+            timing::stored(4, 8, mem, op, f),
             movem::movem_to_memory(r, mem, op, f),
         ),
         4 => taking(
-            clocks::loaded(4, 8, mem, op, f),
+            timing::loaded(4, 8, mem, op, f),
             movem::movem_to_registers(r, mem, op, f),
         ),
         5 => taking(
-            clocks::peripheral(16, 24, op),
+            timing::peripheral(16, 24, op),
             movement::movep_to_register(r, mem, op, f),
         ),
         6 => taking(
-            clocks::peripheral(16, 24, op),
+            timing::peripheral(16, 24, op),
             movement::movep_to_memory(r, mem, op, f),
         ),
         7 => taking(
-            clocks::located(0, op),
+            timing::located(0, op),
             movement::load_address(r, mem, op, f),
         ),
         8 => taking(
-            clocks::located(8, op),
+            timing::located(8, op),
             movement::push_address(r, mem, op, f),
         ),
         9 => taking(6, movement::exchange_data(r, mem, op, f)),
@@ -90,105 +90,105 @@ pub fn integer_kind(j: u32, r: &mut [u32; SLOTS], mem: &[u8], op: u32, f: Flow) 
 {
     match j {
         0 => taking(
-            clocks::sized(4, 8, 4, 6, op),
+            timing::sized(4, 8, 4, 6, op),
             integer::to_register(codes::ADD, r, mem, op, f),
         ),
         1 => taking(
-            clocks::sized(8, 12, 8, 12, op),
+            timing::sized(8, 12, 8, 12, op),
             integer::to_memory(codes::ADD, r, mem, op, f),
         ),
         2 => taking(
-            clocks::addressed(8, 8, 8, 6, op),
+            timing::addressed(8, 8, 8, 6, op),
             integer::to_address(codes::ADD, r, mem, op, f),
         ),
         3 => taking(
-            clocks::sized(8, 16, 12, 20, op),
+            timing::sized(8, 16, 12, 20, op),
             integer::immediate_to(codes::ADD, r, mem, op, f),
         ),
         4 => taking(
-            clocks::sized(4, 8, 8, 12, op),
+            timing::sized(4, 8, 8, 12, op),
             integer::quick_to(codes::ADD, r, mem, op, f),
         ),
         5 => taking(8, integer::quick_address(codes::ADD, r, op, f)),
         6 => taking(
-            clocks::paired(4, 8, 18, 30, op),
+            timing::paired(4, 8, 18, 30, op),
             integer::paired(codes::ADD_EXTENDED, r, mem, op, f),
         ),
         7 => taking(
-            clocks::sized(4, 8, 4, 6, op),
+            timing::sized(4, 8, 4, 6, op),
             integer::to_register(codes::SUBTRACT, r, mem, op, f),
         ),
         8 => taking(
-            clocks::sized(8, 12, 8, 12, op),
+            timing::sized(8, 12, 8, 12, op),
             integer::to_memory(codes::SUBTRACT, r, mem, op, f),
         ),
         9 => taking(
-            clocks::addressed(8, 8, 8, 6, op),
+            timing::addressed(8, 8, 8, 6, op),
             integer::to_address(codes::SUBTRACT, r, mem, op, f),
         ),
         10 => taking(
-            clocks::sized(8, 16, 12, 20, op),
+            timing::sized(8, 16, 12, 20, op),
             integer::immediate_to(codes::SUBTRACT, r, mem, op, f),
         ),
         11 => taking(
-            clocks::sized(4, 8, 8, 12, op),
+            timing::sized(4, 8, 8, 12, op),
             integer::quick_to(codes::SUBTRACT, r, mem, op, f),
         ),
         12 => taking(8, integer::quick_address(codes::SUBTRACT, r, op, f)),
         13 => taking(
-            clocks::paired(4, 8, 18, 30, op),
+            timing::paired(4, 8, 18, 30, op),
             integer::paired(codes::SUBTRACT_EXTENDED, r, mem, op, f),
         ),
         14 => taking(
-            clocks::sized(4, 6, 8, 12, op),
+            timing::sized(4, 6, 8, 12, op),
             integer::unary(codes::NEGATE, r, mem, op, f),
         ),
         15 => taking(
-            clocks::sized(4, 6, 8, 12, op),
+            timing::sized(4, 6, 8, 12, op),
             integer::unary(codes::NEGATE_EXTENDED, r, mem, op, f),
         ),
         16 => taking(
-            clocks::sized(4, 6, 8, 12, op),
+            timing::sized(4, 6, 8, 12, op),
             integer::unary(codes::CLEAR, r, mem, op, f),
         ),
         17 => taking(
-            clocks::sized(4, 6, 4, 6, op),
+            timing::sized(4, 6, 4, 6, op),
             integer::to_register(codes::COMPARE, r, mem, op, f),
         ),
         18 => taking(
-            clocks::addressed(6, 6, 6, 6, op),
+            timing::addressed(6, 6, 6, 6, op),
             integer::compare_address(r, mem, op, f),
         ),
         19 => taking(
-            clocks::sized(8, 14, 8, 12, op),
+            timing::sized(8, 14, 8, 12, op),
             integer::compare_immediate(r, mem, op, f),
         ),
         20 => taking(
-            clocks::paired(12, 20, 12, 20, op),
+            timing::paired(12, 20, 12, 20, op),
             integer::compare_memory(r, mem, op, f),
         ),
         21 => taking(
-            clocks::signed(38, r, mem, op, f),
+            timing::signed(38, r, mem, op, f),
             integer::multiply(codes::SIGNED, r, mem, op, f),
         ),
         22 => taking(
-            clocks::unsigned(38, r, mem, op, f),
+            timing::unsigned(38, r, mem, op, f),
             integer::multiply(codes::UNSIGNED, r, mem, op, f),
         ),
         23 => taking(
-            clocks::narrow(158, 158, op),
+            timing::narrow(158, 158, op),
             integer::divide(codes::SIGNED, r, mem, op, f),
         ),
         24 => taking(
-            clocks::narrow(140, 140, op),
+            timing::narrow(140, 140, op),
             integer::divide(codes::UNSIGNED, r, mem, op, f),
         ),
         25 => taking(4, integer::extend(r, mem, op, f)),
         26 => taking(
-            clocks::narrow(4, 10, op),
+            timing::narrow(4, 10, op),
             integer::unary(codes::TEST_AND_SET, r, mem, op, f),
         ),
-        _ => taking(clocks::sized(4, 4, 4, 4, op), integer::test(r, mem, op, f)),
+        _ => taking(timing::sized(4, 4, 4, 4, op), integer::test(r, mem, op, f)),
     }
 }
 
@@ -200,67 +200,67 @@ pub fn logical_kind(j: u32, r: &mut [u32; SLOTS], mem: &[u8], op: u32, f: Flow) 
 {
     match j {
         0 => taking(
-            clocks::sized(4, 8, 4, 6, op),
+            timing::sized(4, 8, 4, 6, op),
             integer::to_register(codes::AND, r, mem, op, f),
         ),
         1 => taking(
-            clocks::sized(8, 12, 8, 12, op),
+            timing::sized(8, 12, 8, 12, op),
             integer::to_memory(codes::AND, r, mem, op, f),
         ),
         2 => taking(
-            clocks::sized(8, 16, 12, 20, op),
+            timing::sized(8, 16, 12, 20, op),
             integer::immediate_to(codes::AND, r, mem, op, f),
         ),
         3 => taking(
-            clocks::sized(4, 8, 4, 6, op),
+            timing::sized(4, 8, 4, 6, op),
             integer::to_register(codes::OR, r, mem, op, f),
         ),
         4 => taking(
-            clocks::sized(8, 12, 8, 12, op),
+            timing::sized(8, 12, 8, 12, op),
             integer::to_memory(codes::OR, r, mem, op, f),
         ),
         5 => taking(
-            clocks::sized(8, 16, 12, 20, op),
+            timing::sized(8, 16, 12, 20, op),
             integer::immediate_to(codes::OR, r, mem, op, f),
         ),
         6 => taking(
-            clocks::sized(4, 8, 8, 12, op),
+            timing::sized(4, 8, 8, 12, op),
             integer::to_memory(codes::EXCLUSIVE_OR, r, mem, op, f),
         ),
         7 => taking(
-            clocks::sized(8, 16, 12, 20, op),
+            timing::sized(8, 16, 12, 20, op),
             integer::immediate_to(codes::EXCLUSIVE_OR, r, mem, op, f),
         ),
         8 => taking(
-            clocks::sized(4, 6, 8, 12, op),
+            timing::sized(4, 6, 8, 12, op),
             integer::unary(codes::COMPLEMENT, r, mem, op, f),
         ),
         9 => taking(
-            clocks::shifted(6, 8, r, op),
+            timing::shifted(6, 8, r, op),
             bitwise::shift_register(r, mem, op, f),
         ),
         10 => taking(
-            clocks::narrow(8, 8, op),
+            timing::narrow(8, 8, op),
             bitwise::shift_memory(r, mem, op, f),
         ),
         11 => taking(
-            clocks::bit_clocks(0, op),
+            timing::bit_clocks(0, op),
             bitwise::bit_dynamic(r, mem, op, f),
         ),
         12 => taking(
-            clocks::bit_clocks(4, op),
+            timing::bit_clocks(4, op),
             bitwise::bit_static(r, mem, op, f),
         ),
         13 => taking(
-            clocks::paired(6, 6, 18, 18, op),
+            timing::paired(6, 6, 18, 18, op),
             integer::paired(codes::ADD_DECIMAL, r, mem, op, f),
         ),
         14 => taking(
-            clocks::paired(6, 6, 18, 18, op),
+            timing::paired(6, 6, 18, 18, op),
             integer::paired(codes::SUBTRACT_DECIMAL, r, mem, op, f),
         ),
         _ => taking(
-            clocks::narrow(6, 8, op),
+            timing::narrow(6, 8, op),
             integer::unary(codes::NEGATE_DECIMAL, r, mem, op, f),
         ),
     }
@@ -274,25 +274,25 @@ pub fn control_kind(j: u32, r: &mut [u32; SLOTS], mem: &[u8], op: u32, f: Flow) 
 {
     match j {
         0 => taking(
-            clocks::branched(10, 8, 12, op, f),
+            timing::branched(10, 8, 12, op, f),
             control::branch(mem, op, f),
         ),
         1 => taking(
-            clocks::branched(10, 8, 12, op, f),
+            timing::branched(10, 8, 12, op, f),
             control::branch(mem, op, f),
         ),
         2 => taking(18, control::branch_subroutine(r, mem, op, f)),
         3 => taking(
-            clocks::counted(12, 10, 14, r, op, f),
+            timing::counted(12, 10, 14, r, op, f),
             control::decrement_branch(r, mem, op, f),
         ),
         4 => taking(
-            clocks::conditional(4, 6, 8, op, f),
+            timing::conditional(4, 6, 8, op, f),
             control::set_condition(r, mem, op, f),
         ),
-        5 => taking(clocks::jumped(0, op), control::jump_to(r, mem, op, f)),
+        5 => taking(timing::jumped(0, op), control::jump_to(r, mem, op, f)),
         6 => taking(
-            clocks::jumped(8, op),
+            timing::jumped(8, op),
             control::jump_subroutine(r, mem, op, f),
         ),
         7 => taking(4, control::no_operation(f)),
@@ -314,15 +314,15 @@ pub fn system_kind(j: u32, r: &mut [u32; SLOTS], mem: &[u8], op: u32, f: Flow) -
         4 => taking(20, system::immediate_to_ccr(codes::OR, mem, f)),
         5 => taking(20, system::immediate_to_sr(codes::OR, mem, f)),
         6 => taking(
-            clocks::narrow(6, 8, op),
+            timing::narrow(6, 8, op),
             system::move_from_sr(r, mem, op, f),
         ),
         7 => taking(
-            clocks::narrow(12, 12, op),
+            timing::narrow(12, 12, op),
             system::move_to_ccr(r, mem, op, f),
         ),
         8 => taking(
-            clocks::narrow(12, 12, op),
+            timing::narrow(12, 12, op),
             system::move_to_sr(r, mem, op, f),
         ),
         9 => taking(4, system::move_to_usp(r, op, f)),
@@ -333,7 +333,7 @@ pub fn system_kind(j: u32, r: &mut [u32; SLOTS], mem: &[u8], op: u32, f: Flow) -
         14 => taking(0, system::trap(op, f)),
         15 => taking(4, system::trap_overflow(f)),
         _ => taking(
-            clocks::narrow(10, 10, op),
+            timing::narrow(10, 10, op),
             system::check_bounds(r, mem, op, f),
         ),
     }

@@ -1,6 +1,6 @@
 // lib.rt - the instruction of an operation word: its kind, whether it may be done in this state, the family's function, and its clocks.
 // Means: specs/Dispatch.antt.  Laws: proofs/DispatchLaws.antt, proofs/ClockLaws.antt.
-// Uses: codes, bus, operand, plan, clocks, decode, movement, control.  Source: [01 step 2], [01 step 4], [003 4.4.7], [K2].
+// Uses: codes, bus, operand, plan, timing, decode, movement, control.  Source: [01 step 2], [01 step 4], [003 4.4.7], [K2].
 ghost use mathlib.Core.Path.{_≡_};
 ghost use Prim.Native.Nat.{_%_, _/_, _<_, _≤_};
 ghost use lib.ListN.{length};
@@ -99,7 +99,7 @@ pub fn execute(r: &mut [u32; SLOTS], mem: &[u8], op: u32, f: Flow) -> Timed
         if on {
             return Timed {
                 plan: p,
-                clocks: clocks::branched(10, 8, 12, op, f),
+                clocks: timing::branched(10, 8, 12, op, f),
             };
         }
         return Timed {
@@ -117,7 +117,7 @@ pub fn execute(r: &mut [u32; SLOTS], mem: &[u8], op: u32, f: Flow) -> Timed
             let spent = operand::get(r, op % 8) % 65536 == 0xFFFF;
             return Timed {
                 plan: p,
-                clocks: clocks::counted_by(12, 10, 14, spent, op, f),
+                clocks: timing::counted_by(12, 10, 14, spent, op, f),
             };
         }
         return Timed {
@@ -130,7 +130,7 @@ pub fn execute(r: &mut [u32; SLOTS], mem: &[u8], op: u32, f: Flow) -> Timed
         let p = movement::move_data(r, mem, op, f);
         return Timed {
             plan: p,
-            clocks: clocks::moved(op),
+            clocks: timing::moved(op),
         };
     }
     let user = f.sr / codes::SUPERVISOR % 2 == 0;

@@ -1,6 +1,6 @@
 -- FullLaws.antt - the loop of a run on a full journal: what is left of it, done now, gives the whole run's answer, and its sums fit.
 -- full-torn; taken-..; Going, going-start, going-again; going-spent and the three other reasons; going-room, going-step.
--- Uses: bits, bank, record, oldest, turned, starts, step, calls, keeping.
+-- Uses: bits, bank, record, oldest, turned, starts, held, step, calls.
 use Prim.Native.Nat.{ℕ, suc, _+_, _-_, _*_, _≤_, _<_, _^_}
 use native.Mathlib.Omega.{arith}
 use mathlib.Core.Path.{_≡_, refl, sym, ap, subst, _∙_}
@@ -23,8 +23,8 @@ use Rattle.oldest.proofs.SumLaws.{capped-sum}
 use Rattle.turned.specs.Turned.{turned}
 use Rattle.turned.proofs.TurnLaws.{turned-none, length-turned}
 use Rattle.starts.specs.Starts.{Known, NotedIs}
-use Rattle.starts.specs.Held.{Turn}
-use Rattle.starts.proofs.KeepLaws.{turn-none, turn-after-step, written-turned, held-after-step, torn-when-not-noted}
+use Rattle.held.specs.Held.{Turn}
+use Rattle.held.proofs.KeepLaws.{turn-none, turn-after-step, written-turned, held-after-step, torn-when-not-noted}
 use Rattle.calls.specs.declared.Manner.the-variants.{Dropping}
 use Rattle.calls.specs.declared.StepAnswer.{StepAnswer}
 use Rattle.calls.specs.Calls.{memory-fits, state-fits, no-room, torn-way, is-torn, step-taken, step-with-room, StepCall, RunCall, ended, running}

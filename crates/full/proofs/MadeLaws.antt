@@ -1,6 +1,6 @@
 -- MadeLaws.antt - the laws that room_known cites: room that is there, and room that was made.
 -- made-there, made-short.
--- Uses: record, oldest, turned, starts.
+-- Uses: record, oldest, turned, starts, held.
 use Prim.Native.Nat.{ℕ, _-_, _≤_, _<_}
 use native.Mathlib.Omega.{arith}
 use mathlib.Core.Path.{_≡_, refl, sym, ap, _∙_}
@@ -17,9 +17,9 @@ use Rattle.oldest.specs.declared.Room.{Room}
 use Rattle.oldest.specs.Room.{Row, rows-bytes, rows, torn, RoomCall, without, dropped, missing, make-room}
 use Rattle.oldest.proofs.RowLaws.{rows-count}
 use Rattle.oldest.proofs.RoomLaws.{Made, there, refused, on-the-way, dropping, made-cases, dropped-most, room-when-there, room-enough, rows-split}
-use Rattle.starts.specs.declared.held.Held.{Held}
+use Rattle.held.specs.declared.Held.{Held}
 use Rattle.starts.specs.Starts.{Known}
-use Rattle.starts.specs.Held.{Turn, HeldIs}
+use Rattle.held.specs.Held.{Turn, HeldIs}
 use Rattle.full.specs.Full.{MadeIs}
 
 module _ (len : ℕ) (p : List ℕ) (mark b h base : ℕ) (posts near : List ℕ) (i : ℕ) (low : mark ≤ length p) (top : h ≤ length p) (turn : Turn b h mark) (known : Known len (turned b h p) mark posts near i base) where

@@ -9,7 +9,7 @@ use Rattle.record.specs.Limits.{longest-record}
 use Rattle.turned.specs.Turned.{turned}
 use Rattle.oldest.specs.Room.{make-room}
 use Rattle.starts.specs.Starts.{Known}
-use Rattle.starts.specs.Held.{Turn}
+use Rattle.held.specs.Held.{Turn}
 use Rattle.full.specs.declared.Made.{Made}
 
 -- Journal and answer are make-room's for the journal j, whose length the journal p has too; what is known goes on. [K5], [ours]

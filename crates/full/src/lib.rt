@@ -1,7 +1,7 @@
 // lib.rt - the steps of a run that has found its journal full: where room is short the fewest oldest records are dropped. All records are
 // read once, at the start, and then again only when they are about to be dropped; and the journal is turned instead of moved.
 // Means: running of the crate calls at Dropping; specs/Full.antt.  Laws: proofs/MadeLaws.antt, proofs/FullLaws.antt.
-// Uses: codes, record, oldest, turned, starts, step, calls, keeping.  Source: [K5].
+// Uses: codes, record, oldest, turned, starts, held, step, calls, taken.  Source: [K5].
 ghost use mathlib.Core.Path.{_≡_};
 ghost use mathlib.Core.Bool.{true, false};
 ghost use Prim.Native.Nat.{_+_, _-_, _*_, _≤_, _<_, _^_};
@@ -13,7 +13,7 @@ ghost use Rattle.record.specs.Limits.{byte-limit, longest-record};
 ghost use Rattle.step.specs.Steps.{most-clocks};
 ghost use Rattle.turned.specs.Turned.{turned};
 ghost use Rattle.starts.specs.Starts.{Known};
-ghost use Rattle.starts.specs.Held.{Turn};
+ghost use Rattle.held.specs.Held.{Turn};
 ghost use Rattle.calls.specs.declared.Manner.the-variants.{Dropping};
 ghost use Rattle.calls.specs.Calls.{memory-fits, state-fits, running};
 ghost use Rattle.full.specs.Full.{MadeIs};
@@ -55,7 +55,7 @@ fn room_known(
 {
     let short = journal.len() - mark < LONGEST_RECORD;
     if short {
-        let r = starts::held::room_held(journal, mark, len, b, h, base, spread, posts, near, i);
+        let r = held::room_held(journal, mark, len, b, h, base, spread, posts, near, i);
         return Made {
             mark: r.mark,
             moved: r.mark,
@@ -100,8 +100,8 @@ fn running_known(
     ensures { λ _. ⌜ now (journal .exit) ≡ running Dropping (budget - done) done clocks 0 0 stop (now (slots .entry)) (now (memory .entry)) (now (journal .entry)) mark .j ⌝ }
     ensures { λ a. ⌜ a ≡ running Dropping (budget - done) done clocks 0 0 stop (now (slots .entry)) (now (memory .entry)) (now (journal .entry)) mark .a ⌝ }
 {
-    let size = keeping::twenty(slots);
-    let long = keeping::bytes(memory);
+    let size = taken::twenty(slots);
+    let long = taken::bytes(memory);
     let len = memory.len();
     let mut n = done;
     let mut c = clocks;
@@ -130,7 +130,7 @@ fn running_known(
         }
         let r = room_known(journal, m, len, b, h, base, spread, posts, near, i);
         starts::posts::note_post(posts, spread, r.base + r.mark);
-        let a = keeping::step_taken(slots, memory, 0, 0, journal, r.mark, log);
+        let a = taken::step_taken(slots, memory, 0, 0, journal, r.mark, log);
         m = a.mark;
         b = r.b;
         i = r.i;

@@ -16,7 +16,8 @@ use Rattle.step.specs.Steps.{most-clocks, step-clocks}
 use Rattle.step.proofs.LargestLaws.{largest-step}
 use Rattle.calls.specs.declared.StepAnswer.{StepAnswer}
 use Rattle.calls.specs.declared.RunAnswer.{RunAnswer}
-use Rattle.keeping.specs.Loop.{GoesOn, FoundFull, Ends}
+use Rattle.taken.specs.Going.{GoesOn}
+use Rattle.keeping.specs.Loop.{FoundFull, Ends}
 use Rattle.calls.specs.declared.Manner.the-variants.{Keeping}
 use Rattle.calls.specs.Calls.{memory-fits, state-fits, step-taken, step-with-room, RunCall, ended, running}
 

@@ -1,9 +1,9 @@
--- Loop.antt - what a step leaves so that a run can go on, and what a run's steps leave: a state and a memory that fit, lengths as they were.
--- Not part of any promise: `step_taken` tells it to `running`, and both to the run that drops records (crates machine and full).
+-- Loop.antt - what a run's steps leave, so that another can go on: what a step leaves, sums that fit, and what reason 4 says.
+-- Not part of any promise: `running` tells it to the run that drops records (crate machine).
 -- Laws: proofs/LoopLaws.antt.  Source: [ours].
 use Prim.Native.Nat.{ℕ, _-_, _*_, _≤_, _<_}
 use mathlib.Core.Path.{_≡_}
-use mathlib.Core.Bool.{true, false}
+use mathlib.Core.Bool.{false}
 use mathlib.Core.List.{List}
 use lib.ListN.{length}
 use lib.Dec.{eqb}
@@ -11,16 +11,7 @@ use Rattle.bank.specs.Bank.{mode-of}
 use Rattle.record.specs.Limits.{longest-record}
 use Rattle.step.specs.Steps.{most-clocks}
 use Rattle.calls.specs.declared.RunAnswer.{RunAnswer}
-use Rattle.calls.specs.Calls.{memory-fits, state-fits}
-
--- slots s₁ after the step; memory, journal and log before and after; the mark after  [ours]
-pub record GoesOn (s₁ m m₁ j j₁ l l₁ : List ℕ) (mark : ℕ) : Type 0 where
-  pub state : state-fits s₁ ≡ true
-  pub memory : memory-fits m₁ ≡ true
-  pub same-memory : length m₁ ≡ length m
-  pub same-journal : length j₁ ≡ length j
-  pub same-log : length l₁ ≡ length l
-  pub inside : mark ≤ length j₁
+use Rattle.taken.specs.Going.{GoesOn}
 
 -- the run found room short, and nothing before that ended it  [ours]
 pub record FoundFull (b : ℕ) (s j : List ℕ) (a : RunAnswer) : Type 0 where

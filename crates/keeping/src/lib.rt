@@ -1,14 +1,14 @@
 // lib.rt - step and run in the manner that keeps all records: where the journal is full no step is taken. No call has a `requires`.
 // Means: Calls and Promises of the crate calls at Keeping, where the theorems stand.  Laws: proofs/CallLaws.antt, proofs/LoopLaws.antt.
-// Uses: codes, bits, record, step, calls.  Source: [01 Calls and what they give back], [01 The journal], [K2], [K5].
+// Uses: codes, bits, record, calls, answers, taken.  Source: [01 Calls and what they give back], [01 The journal], [K2], [K5].
 ghost use mathlib.Core.Path.{_≡_};
 ghost use mathlib.Core.Bool.{true};
-ghost use Prim.Native.Nat.{ℕ, _+_, _≤_, _<_, _^_};
-ghost use lib.ListN.{length, getD};
+ghost use Prim.Native.Nat.{_≤_};
+ghost use lib.ListN.{length};
 ghost use Rattle.codes.specs.Codes.{MostSteps};
-ghost use Rattle.record.specs.Limits.{slot-limit, byte-limit, longest-record};
-ghost use Rattle.calls.specs.Calls.{memory-fits, state-fits, step-taken, running};
-ghost use Rattle.keeping.specs.Loop.{GoesOn, Ends};
+ghost use Rattle.record.specs.Limits.{byte-limit};
+ghost use Rattle.calls.specs.Calls.{memory-fits, state-fits, running};
+ghost use Rattle.keeping.specs.Loop.{Ends};
 ghost use Rattle.calls.specs.declared.Manner.the-variants.{Keeping};
 ghost use Rattle.calls.specs.Promises.{StepPromise, RunPromise};
 use calls::Manner;
@@ -21,73 +21,6 @@ use record::limits::LONGEST_RECORD;
 // The clocks of a call that is refused.
 pub const NO_CLOCKS: u32 = 0;
 
-// What the type says of slots: their number, and 32 bits each.
-fn words(s: &[u32]) -> usize
-    ensures { λ r. ⌜ r ≡ length (now (s .entry)) ⌝ }
-    ensures { λ _. ⌜ ((k : ℕ) → getD (now (s .entry)) k 0 < 2 ^ 32) ⌝ }
-{
-    words_there(s)
-}
-
-fn words_there(s: &[u32]) -> usize
-    ensures { λ r. ⌜ r ≡ length (now (s .entry)) ⌝ }
-{
-    s.len()
-}
-
-pub fn twenty(s: &[u32; SLOTS]) -> usize
-    ensures { λ _. ⌜ length (now (s .entry)) ≡ slot-limit ⌝ }
-    ensures { λ _. ⌜ ((k : ℕ) → getD (now (s .entry)) k 0 < 2 ^ 32) ⌝ }
-{
-    words(s)
-}
-
-// What the type says of memory: bytes.
-pub fn bytes(m: &[u8]) -> usize
-    ensures { λ r. ⌜ r ≡ length (now (m .entry)) ⌝ }
-    ensures { λ _. ⌜ ((k : ℕ) → getD (now (m .entry)) k 0 < 256) ⌝ }
-{
-    bytes_there(m)
-}
-
-fn bytes_there(m: &[u8]) -> usize
-    ensures { λ r. ⌜ r ≡ length (now (m .entry)) ⌝ }
-{
-    m.len()
-}
-
-// One step and its record at the mark. The log is lent, so that a run makes it once.
-pub fn step_taken(
-    slots: &mut [u32; SLOTS],
-    memory: &mut [u8],
-    level: u32,
-    vector: u32,
-    journal: &mut [u8],
-    mark: usize,
-    log: &mut [u64],
-) -> StepAnswer
-    requires { ⌜ (memory-fits (now memory) ≡ true) × (mark + longest-record ≤ length (now journal)) × (byte-limit ≤ length (now log)) × (state-fits (now slots) ≡ true) ⌝ }
-    ensures { λ _. ⌜ now (slots .exit) ≡ step-taken (now (slots .entry)) (now (memory .entry)) level vector (now (journal .entry)) mark .s ⌝ }
-    ensures { λ _. ⌜ now (memory .exit) ≡ step-taken (now (slots .entry)) (now (memory .entry)) level vector (now (journal .entry)) mark .m ⌝ }
-    ensures { λ _. ⌜ now (journal .exit) ≡ step-taken (now (slots .entry)) (now (memory .entry)) level vector (now (journal .entry)) mark .j ⌝ }
-    ensures { λ a. ⌜ a ≡ step-taken (now (slots .entry)) (now (memory .entry)) level vector (now (journal .entry)) mark .a ⌝ }
-    ensures { λ a. ⌜ GoesOn (now (slots .exit)) (now (memory .entry)) (now (memory .exit)) (now (journal .entry)) (now (journal .exit)) (now (log .entry)) (now (log .exit)) (a .mark) ⌝ }
-{
-    let size = twenty(slots);
-    let long = bytes(memory);
-    let old = *slots;
-    let e = step::one_step(slots, &old, memory, log, level, vector);
-    let next = record::put_record(journal, mark, &old, slots, memory, log, e.n);
-    StepAnswer {
-        number: 0,
-        event: e.event,
-        mark: next,
-        clocks: e.clocks,
-        moved: 0,
-        dropped: 0,
-    }
-}
-
 pub fn step_keeping(
     slots: &mut [u32; SLOTS],
     memory: &mut [u8],
@@ -98,11 +31,11 @@ pub fn step_keeping(
 ) -> StepAnswer
     ensures { λ a. ⌜ StepPromise Keeping (now (slots .entry)) (now (memory .entry)) level vector (now (journal .entry)) mark (now (slots .exit)) (now (memory .exit)) (now (journal .exit)) a ⌝ }
 {
-    let number = calls::step_number(Manner::Keeping, slots, memory, level, journal, mark);
+    let number = answers::step_number(Manner::Keeping, slots, memory, level, journal, mark);
     let good = number == 0;
     if good {
         let mut log = [0u64; BYTE_LIMIT];
-        return step_taken(
+        return taken::step_taken(
             slots,
             memory,
             level,
@@ -164,7 +97,7 @@ pub fn running(
         if there {
             break 5;
         }
-        let a = step_taken(slots, memory, 0, 0, journal, m, log);
+        let a = taken::step_taken(slots, memory, 0, 0, journal, m, log);
         m = a.mark;
         n += 1;
         c += a.clocks;
@@ -190,7 +123,7 @@ pub fn run_keeping(
 ) -> RunAnswer
     ensures { λ a. ⌜ RunPromise Keeping (now (slots .entry)) (now (memory .entry)) budget stop (now (journal .entry)) mark (now (slots .exit)) (now (memory .exit)) (now (journal .exit)) a ⌝ }
 {
-    let number = calls::run_number(slots, memory, budget, journal, mark);
+    let number = answers::run_number(slots, memory, budget, journal, mark);
     let good = number == 0;
     if good {
         let mut log = [0u64; BYTE_LIMIT];

@@ -1,7 +1,7 @@
 // lib.rt - the calls of the machine: reset, step, run and undo, with their refusals. No call has a `requires`. Where the journal is full,
 // step and run drop its oldest records; those that keep all of them are step_keeping and run_keeping of the crate keeping.
 // Means: Calls and Promises of the crate calls, step and run at Dropping.  Laws: proofs/CallLaws.antt, proofs/FirstLaws.antt.
-// Uses: codes, bits, record, undo, oldest, calls, keeping, full.  Source: [01 Calls and what they give back], [K2], [K5].
+// Uses: codes, bits, record, undo, oldest, calls, answers, taken, keeping, full.  Source: [01 Calls and what they give back], [K2], [K5].
 ghost use Rattle.calls.specs.declared.Manner.the-variants.{Dropping};
 ghost use Rattle.calls.specs.Promises.{ResetPromise, StepPromise, RunPromise, UndoPromise};
 use calls::Manner;
@@ -17,13 +17,13 @@ use record::limits::LONGEST_RECORD;
 pub fn reset(slots: &mut [u32; SLOTS], memory: &[u8]) -> u32
     ensures { λ n. ⌜ ResetPromise (now (memory .entry)) (now (slots .exit)) n ⌝ }
 {
-    let fits = calls::memory_fits(memory);
+    let fits = answers::memory_fits(memory);
     if fits {
-        let n = calls::reset_slots(memory);
+        let n = answers::reset_slots(memory);
         *slots = n;
         return 0;
     }
-    let n = calls::refused_slots();
+    let n = answers::refused_slots();
     *slots = n;
     1
 }
@@ -39,10 +39,10 @@ pub fn step(
 ) -> StepAnswer
     ensures { λ a. ⌜ StepPromise Dropping (now (slots .entry)) (now (memory .entry)) level vector (now (journal .entry)) mark (now (slots .exit)) (now (memory .exit)) (now (journal .exit)) a ⌝ }
 {
-    let number = calls::step_number(Manner::Dropping, slots, memory, level, journal, mark);
+    let number = answers::step_number(Manner::Dropping, slots, memory, level, journal, mark);
     let good = number == 0;
     if good {
-        let size = keeping::bytes(journal);
+        let size = taken::bytes(journal);
         let room = oldest::make_room(journal, mark, memory.len());
         let torn = room.number != 0;
         if torn {
@@ -56,7 +56,7 @@ pub fn step(
             };
         }
         let mut log = [0u64; BYTE_LIMIT];
-        let a = keeping::step_taken(
+        let a = taken::step_taken(
             slots,
             memory,
             level,
@@ -95,7 +95,7 @@ pub fn run(
 ) -> RunAnswer
     ensures { λ a. ⌜ RunPromise Dropping (now (slots .entry)) (now (memory .entry)) budget stop (now (journal .entry)) mark (now (slots .exit)) (now (memory .exit)) (now (journal .exit)) a ⌝ }
 {
-    let number = calls::run_number(slots, memory, budget, journal, mark);
+    let number = answers::run_number(slots, memory, budget, journal, mark);
     let good = number == 0;
     if good {
         let mut log = [0u64; BYTE_LIMIT];
@@ -130,11 +130,11 @@ pub fn run(
 pub fn undo(slots: &mut [u32; SLOTS], memory: &mut [u8], journal: &[u8], mark: usize) -> UndoAnswer
     ensures { λ a. ⌜ UndoPromise (now (slots .entry)) (now (memory .entry)) (now (journal .entry)) mark (now (slots .exit)) (now (memory .exit)) a ⌝ }
 {
-    let number = calls::undo_number(slots, memory, journal, mark);
+    let number = answers::undo_number(slots, memory, journal, mark);
     let good = number == 0;
     if good {
         let a = undo::undo(slots, memory, journal, mark);
-        return calls::undo_answer(mark, a);
+        return answers::undo_answer(mark, a);
     }
     UndoAnswer { number, mark }
 }

@@ -3,5 +3,3 @@ pub mod SkipLaws
 pub mod WrapLaws
 pub mod PostLaws
 pub mod NearLaws
-pub mod HeldLaws
-pub mod KeepLaws

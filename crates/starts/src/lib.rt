@@ -1,7 +1,6 @@
-// lib.rt - room in a run whose journal is full: starts of its records are known, so that they need not be read again at each step.
-// Means: specs/Starts.antt, specs/Held.antt.  Laws: StartLaws, SkipLaws, WrapLaws, PostLaws, NearLaws, HeldLaws, KeepLaws of proofs/.
+// lib.rt - where the records of a run's full journal begin, so that they need not be read again at each step. Crate held makes room by it.
+// Means: specs/Starts.antt.  Laws: StartLaws, SkipLaws, WrapLaws, PostLaws, NearLaws of proofs/.
 // Uses: oldest, turned, undo, record, numbers.  Source: [K5], [ours].
-pub mod held;
 pub mod near;
 pub mod posts;
 

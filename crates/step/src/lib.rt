@@ -1,47 +1,16 @@
-// lib.rt - one whole step: the attempt of an instruction, its writes, its trap, trace, interrupts, a stopped machine; its clocks.
-// Means: specs/Steps.antt.  Laws: proofs/StepLaws.antt, proofs/NotedLaws.antt, proofs/ClockLaws.antt.
-// Uses: codes, bits, bus, plan, clocks, movem, store, touch, bank, exception, execute.  Source: [003 4.1], [003 4.4.2], [003 4.4.8], [01 One step], [K2].
+// lib.rt - the end of an instruction: its writes, its trap and the trace after it, or its fault; and the clocks of all that.
+// Means: specs/Steps.antt; a whole step in code is crate one_step.  Laws: proofs/StepLaws.antt, proofs/NotedLaws.antt, proofs/ClockLaws.antt.
+// Uses: codes, bits, plan, timing, blocks, store, touch, bank, exception.  Source: [003 4.4.8], [01 step 5], [01 step 6], [01 step 7], [K2].
 ghost use mathlib.Core.Path.{_≡_};
 ghost use Prim.Native.Nat.{_+_, _≤_, _<_};
 ghost use lib.ListN.{length};
 ghost use Rattle.bank.specs.Bank.{settle};
-ghost use Rattle.bus.specs.Bus.{view-of};
 ghost use Rattle.touch.specs.Touch.{LogOk, Noted};
-ghost use Rattle.step.specs.Steps.{plan-with-flow, checked, attempt, commit, trap-of, take-trap, traced, both, carry-out, conclude};
-ghost use Rattle.step.specs.Steps.{instruction, interrupt-sr, interrupt, one-step, trap-clocks, trace-clocks, ended-clocks};
-ghost use Rattle.step.specs.Steps.{concluded-clocks, instruction-clocks, interrupt-clocks, step-clocks};
-use bus::Flow;
+ghost use Rattle.step.specs.Steps.{commit, trap-of, take-trap, traced, both, carry-out, conclude, trap-clocks, trace-clocks, ended-clocks};
+ghost use Rattle.step.specs.Steps.{concluded-clocks};
 use codes::SLOTS;
 use exception::Ended;
 use plan::Plan;
-
-fn plan_with_flow(p: Plan, f: Flow) -> Plan
-    ensures { λ q. ⌜ q ≡ plan-with-flow p f ⌝ }
-{
-    Plan {
-        write: p.write,
-        at: p.at,
-        value: p.value,
-        vector: p.vector,
-        flow: f,
-    }
-}
-
-// The plan, with the fault of a write for which there is no room.
-fn checked(mem: &[u8], p: Plan) -> Plan
-    ensures { λ q. ⌜ q ≡ checked (view-of (now (mem .entry))) p ⌝ }
-{
-    let f = p.flow;
-    let none = p.write == codes::NO_WRITE;
-    let one = p.write < codes::NO_WRITE;
-    if none {
-        return p;
-    }
-    if one {
-        return plan_with_flow(p, bus::room(mem, p.at, p.write, f));
-    }
-    plan_with_flow(p, movem::block_room(mem, p))
-}
 
 // An operation word, what is to be done for it, and the clocks of its instruction if it takes no exception.
 pub struct Tried {
@@ -57,23 +26,6 @@ pub struct Taken {
     pub clocks: u32,
 }
 
-// An instruction, up to its writes: all that it sees are the registers, PC, SR and the view of memory.
-fn attempt(r: &mut [u32; SLOTS], mem: &[u8], f: Flow) -> Tried
-    ensures { λ t. ⌜ record { r = now (r .exit); t = t } ≡ attempt (now (r .entry)) (view-of (now (mem .entry))) f ⌝ }
-    ensures { λ t. ⌜ t .clocks < 512 ⌝ }
-{
-    let w = bus::next_word(mem, f);
-    let g = w.flow;
-    let t = execute::execute(r, mem, w.value, g);
-    let p = t.plan;
-    let q = checked(mem, p);
-    Tried {
-        op: w.value,
-        p: q,
-        clocks: t.clocks,
-    }
-}
-
 // The write of a plan that has one.
 fn commit(mem: &mut [u8], log: &mut [u64], r: &[u32; SLOTS], p: Plan) -> usize
     requires { ⌜ LogOk (now mem) (now log) 0 × (64 ≤ length (now log)) ⌝ }
@@ -84,7 +36,7 @@ fn commit(mem: &mut [u8], log: &mut [u64], r: &[u32; SLOTS], p: Plan) -> usize
     if one {
         return store::store_sized(mem, log, 0, p.at, p.write, p.value);
     }
-    movem::block_store(mem, log, 0, r, p)
+    blocks::block_store(mem, log, 0, r, p)
 }
 
 // The vector of a plan's trap, or 0.
@@ -231,7 +183,7 @@ fn trap_clocks(t: Tried, event: u32) -> u32
     if halted {
         return 0;
     }
-    clocks::exception_clocks(vec, t.op)
+    timing::exception_clocks(vec, t.op)
 }
 
 // The clocks of the trace after it, none if that halts.
@@ -246,7 +198,7 @@ fn trace_clocks(t: Tried, trace: bool, mode: u32) -> u32
     if none {
         return 0;
     }
-    clocks::exception_clocks(codes::TRACE_VECTOR, t.op)
+    timing::exception_clocks(codes::TRACE_VECTOR, t.op)
 }
 
 // The clocks of an instruction by how it ended.
@@ -268,11 +220,11 @@ fn ended_clocks(t: Tried, trace: bool, event: u32, mode: u32) -> u32
     if halted {
         return 0;
     }
-    clocks::exception_clocks(f.bad % 4, t.op)
+    timing::exception_clocks(f.bad % 4, t.op)
 }
 
 // The end of an instruction, with its clocks.
-fn concluded(
+pub fn concluded(
     r: &mut [u32; SLOTS],
     s: &[u32; SLOTS],
     mem: &mut [u8],
@@ -294,101 +246,5 @@ fn concluded(
         n: e.n,
         event: e.event,
         clocks: c,
-    }
-}
-
-// One instruction. The slots before it are lent a second time, as they were.
-fn instruction(
-    s: &mut [u32; SLOTS],
-    before: &[u32; SLOTS],
-    mem: &mut [u8],
-    log: &mut [u64],
-) -> Taken
-    requires { ⌜ LogOk (now mem) (now log) 0 × (70 ≤ length (now log)) ⌝ }
-    requires { ⌜ now before ≡ now s ⌝ }
-    ensures { λ _. ⌜ now (s .exit) ≡ instruction (now (s .entry)) (now (mem .entry)) .s ⌝ }
-    ensures { λ _. ⌜ now (mem .exit) ≡ instruction (now (s .entry)) (now (mem .entry)) .m ⌝ }
-    ensures { λ e. ⌜ e .event ≡ instruction (now (s .entry)) (now (mem .entry)) .event ⌝ }
-    ensures { λ e. ⌜ e .clocks ≡ instruction-clocks (now (s .entry)) (now (mem .entry)) ⌝ }
-    ensures { λ e. ⌜ Noted (now (mem .entry)) (now (log .entry)) 0 70 (now (mem .exit)) (now (log .exit)) (e .n) ⌝ }
-{
-    let sr = s[codes::SR];
-    let pc = s[codes::PC];
-    bank::bank(s);
-    let t = attempt(s, mem, exception::fresh(pc, sr));
-    concluded(s, before, mem, log, t)
-}
-
-// An interrupt: the mask becomes its level.
-fn interrupt(
-    s: &mut [u32; SLOTS],
-    mem: &mut [u8],
-    log: &mut [u64],
-    level: u32,
-    vector: u32,
-) -> Ended
-    requires { ⌜ LogOk (now mem) (now log) 0 × (6 ≤ length (now log)) ⌝ }
-    ensures { λ _. ⌜ now (s .exit) ≡ interrupt (now (s .entry)) (now (mem .entry)) level vector .s ⌝ }
-    ensures { λ _. ⌜ now (mem .exit) ≡ interrupt (now (s .entry)) (now (mem .entry)) level vector .m ⌝ }
-    ensures { λ e. ⌜ e .event ≡ interrupt (now (s .entry)) (now (mem .entry)) level vector .event ⌝ }
-    ensures { λ e. ⌜ Noted (now (mem .entry)) (now (log .entry)) 0 6 (now (mem .exit)) (now (log .exit)) (e .n) ⌝ }
-{
-    let sr = interrupt_sr(s[codes::SR], level);
-    exception::exception(s, mem, log, 0, vector, sr)
-}
-
-fn interrupt_sr(sr: u32, level: u32) -> u32
-    ensures { λ r. ⌜ r ≡ interrupt-sr sr level ⌝ }
-{
-    codes::SUPERVISOR + level % 8 * codes::MASK + sr % codes::MASK
-}
-
-// The clocks of an interrupt, none if it halts.
-fn interrupt_clocks(event: u32) -> u32
-    ensures { λ n. ⌜ n ≡ interrupt-clocks event ⌝ }
-{
-    let halted = event == codes::HALT_EVENT;
-    if halted {
-        return 0;
-    }
-    clocks::INTERRUPT_LINE
-}
-
-// One whole step with its request, the slots before it lent a second time: an interrupt that is taken, or nothing where the machine is
-// stopped, or one instruction.
-pub fn one_step(
-    s: &mut [u32; SLOTS],
-    before: &[u32; SLOTS],
-    mem: &mut [u8],
-    log: &mut [u64],
-    level: u32,
-    vector: u32,
-) -> Taken
-    requires { ⌜ LogOk (now mem) (now log) 0 × (70 ≤ length (now log)) ⌝ }
-    requires { ⌜ now before ≡ now s ⌝ }
-    ensures { λ _. ⌜ now (s .exit) ≡ one-step (now (s .entry)) (now (mem .entry)) level vector .s ⌝ }
-    ensures { λ _. ⌜ now (mem .exit) ≡ one-step (now (s .entry)) (now (mem .entry)) level vector .m ⌝ }
-    ensures { λ e. ⌜ e .event ≡ one-step (now (s .entry)) (now (mem .entry)) level vector .event ⌝ }
-    ensures { λ e. ⌜ Noted (now (mem .entry)) (now (log .entry)) 0 70 (now (mem .exit)) (now (log .exit)) (e .n) ⌝ }
-    ensures { λ e. ⌜ e .clocks ≡ step-clocks (now (s .entry)) (now (mem .entry)) level vector ⌝ }
-{
-    let mask = s[codes::SR] / codes::MASK % 8;
-    let taken = (level == codes::TOP_LEVEL) | (mask < level);
-    if taken {
-        let e = interrupt(s, mem, log, level, vector);
-        return Taken {
-            n: e.n,
-            event: e.event,
-            clocks: interrupt_clocks(e.event),
-        };
-    }
-    let running = s[codes::MODE] == codes::RUNNING;
-    if running {
-        return instruction(s, before, mem, log);
-    }
-    Taken {
-        n: 0,
-        event: codes::NO_EVENT,
-        clocks: clocks::STOPPED_CLOCKS,
     }
 }

@@ -1,5 +1,6 @@
+use Rattle.touch.proofs.TouchLaws.{noted-still}
 use Rattle.exception.proofs.ExceptionLaws.{exception-slots, exception-memory, exception-event, exception-halts-slots, exception-halts-memory}
-use Rattle.exception.proofs.ExceptionLaws.{exception-halts-event, noted-still}
+use Rattle.exception.proofs.ExceptionLaws.{exception-halts-event}
 use borrow.Author.Needs.{needs}
 use Rattle.exception.proofs.exception.Statement.{statement}
 use Rattle.exception.proofs.exception.Tie as tie

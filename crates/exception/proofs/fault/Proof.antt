@@ -1,5 +1,5 @@
+use Rattle.touch.proofs.TouchLaws.{noted-still}
 use Rattle.exception.proofs.ExceptionLaws.{fault-event, fault-halts-event, fault-halts-memory, fault-halts-slots, fault-memory, fault-slots}
-use Rattle.exception.proofs.ExceptionLaws.{noted-still}
 use borrow.Author.Needs.{needs}
 use Rattle.exception.proofs.fault.Statement.{statement}
 use Rattle.exception.proofs.fault.Tie as tie

@@ -1,7 +1,7 @@
 use mathlib.Core.Path.{refl}
 use native.Mathlib.Omega.{arith}
 use Rattle.full.proofs.FullLaws.{full-torn}
-use Rattle.starts.proofs.KeepLaws.{known-when-noted}
+use Rattle.held.proofs.KeepLaws.{known-when-noted}
 use borrow.Author.Needs.{needs}
 use Rattle.full.proofs.running_full.Statement.{statement}
 use Rattle.full.proofs.running_full.Tie as tie

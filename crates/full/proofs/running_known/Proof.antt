@@ -1,6 +1,6 @@
 use Prim.Native.Nat.{_-_, _<_, _^_}
 use native.Mathlib.Omega.{arith}
-use Rattle.keeping.proofs.CallLaws.{valid-lent}
+use Rattle.taken.proofs.TakenLaws.{valid-lent}
 use Rattle.full.proofs.FullLaws.{Going, going-start, going-again, going-room, going-step, going-post, going-dropped, going-sum}
 use Rattle.full.proofs.FullLaws.{going-one, going-less}
 use Rattle.full.proofs.FullLaws.{Gives, going-spent, going-halted, going-stopped, going-there, at-reason, either-of}

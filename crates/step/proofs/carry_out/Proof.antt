@@ -1,8 +1,6 @@
-use Rattle.exception.proofs.ExceptionLaws.{noted-still}
-use Rattle.step.proofs.NotedLaws.{noted-within}
 use Rattle.step.proofs.StepLaws.{carry-out-quiet-event, carry-out-quiet-memory, carry-out-quiet-slots, carry-out-trace, carry-out-trap}
 use Rattle.step.proofs.StepLaws.{carry-out-write-event, carry-out-write-memory, carry-out-write-slots, event-by, memory-by, slots-by}
-use Rattle.touch.proofs.TouchLaws.{noted-then}
+use Rattle.touch.proofs.TouchLaws.{noted-still, noted-then, noted-within}
 use borrow.Author.Needs.{needs}
 use Rattle.step.proofs.carry_out.Statement.{statement}
 use Rattle.step.proofs.carry_out.Tie as tie

@@ -1,4 +1,4 @@
-use Rattle.step.proofs.NotedLaws.{noted-within}
+use Rattle.touch.proofs.TouchLaws.{noted-within}
 use Rattle.step.proofs.StepLaws.{conclude-faults, conclude-fine, event-by, memory-by, slots-by}
 use borrow.Author.Needs.{needs}
 use Rattle.step.proofs.conclude.Statement.{statement}

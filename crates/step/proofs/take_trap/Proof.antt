@@ -1,4 +1,4 @@
-use Rattle.exception.proofs.ExceptionLaws.{noted-still}
+use Rattle.touch.proofs.TouchLaws.{noted-still}
 use Rattle.step.proofs.StepLaws.{event-by, memory-by, slots-by, take-trap-none-event, take-trap-none-memory, take-trap-none-slots}
 use Rattle.step.proofs.StepLaws.{take-trap-some}
 use borrow.Author.Needs.{needs}

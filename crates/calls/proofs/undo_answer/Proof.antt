@@ -1,9 +1,0 @@
-use Rattle.calls.proofs.NumberLaws.{undo-answer-done, undo-answer-refused}
-use borrow.Author.Needs.{needs}
-use Rattle.calls.proofs.undo_answer.Statement.{statement}
-use Rattle.calls.proofs.undo_answer.Tie as tie
-
-pub undo-answer-spec : {M : Type 1} → statement M
-undo-answer-spec =
-    tie.close (tie.spec
-    (λ c. search needs) (λ c. search needs) (λ c. search undo-answer-done) (λ c. search undo-answer-refused))

@@ -1,9 +1,0 @@
-use borrow.Author.Needs.{needs}
-use Rattle.clocks.proofs.ClockLaws.{addressed-is}
-use Rattle.clocks.proofs.addressed.Statement.{statement}
-use Rattle.clocks.proofs.addressed.Tie as tie
-
-pub addressed-spec : {M : Type 1} → statement M
-addressed-spec =
-    tie.close (tie.spec
-    (λ c κs. search needs) (λ c. search addressed-is))

@@ -1,9 +1,0 @@
-use borrow.Author.Needs.{needs}
-use Rattle.clocks.proofs.ClockLaws.{factor-is}
-use Rattle.clocks.proofs.factor.Statement.{statement}
-use Rattle.clocks.proofs.factor.Tie as tie
-
-pub factor-spec : {M : Type 1} → statement M
-factor-spec =
-    tie.close (tie.spec
-    (λ c κs. search needs) (λ c κs. search needs) (λ c. (search factor-is, search needs)))

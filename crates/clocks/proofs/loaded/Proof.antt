@@ -1,9 +1,0 @@
-use borrow.Author.Needs.{needs}
-use Rattle.clocks.proofs.ClockLaws.{loaded-is}
-use Rattle.clocks.proofs.loaded.Statement.{statement}
-use Rattle.clocks.proofs.loaded.Tie as tie
-
-pub loaded-spec : {M : Type 1} → statement M
-loaded-spec =
-    tie.close (tie.spec
-    (λ c κs. search needs) (λ c κs. search needs) (λ c κs. search needs) (λ c κs. search needs) (λ c. search needs) (λ c. search loaded-is))

@@ -1,9 +1,0 @@
-use borrow.Author.Needs.{needs}
-use Rattle.clocks.proofs.ClockLaws.{peripheral-is}
-use Rattle.clocks.proofs.peripheral.Statement.{statement}
-use Rattle.clocks.proofs.peripheral.Tie as tie
-
-pub peripheral-spec : {M : Type 1} → statement M
-peripheral-spec =
-    tie.close (tie.spec
-    (λ c κs. search needs) (λ c κs. search needs) (λ c. search peripheral-is))

@@ -1,9 +1,0 @@
-use borrow.Author.Needs.{needs}
-use Rattle.clocks.proofs.ClockLaws.{sized-is}
-use Rattle.clocks.proofs.sized.Statement.{statement}
-use Rattle.clocks.proofs.sized.Tie as tie
-
-pub sized-spec : {M : Type 1} → statement M
-sized-spec =
-    tie.close (tie.spec
-    (λ c κs. search needs) (λ c. search sized-is))

@@ -1,0 +1,157 @@
+// lib.rt - one whole step: an interrupt that is taken, or one instruction, from its operation word to its end; a stopped machine; its clocks.
+// Means: specs/Steps.antt of the crate step, where the laws and the theorems stand; step has the end of an instruction too.
+// Uses: codes, bus, plan, clocks, blocks, touch, bank, exception, execute, step.  Source: [003 4.1], [003 4.4.2], [01 One step], [K2].
+ghost use mathlib.Core.Path.{_≡_};
+ghost use Prim.Native.Nat.{_≤_, _<_};
+ghost use lib.ListN.{length};
+ghost use Rattle.bus.specs.Bus.{view-of};
+ghost use Rattle.touch.specs.Touch.{LogOk, Noted};
+ghost use Rattle.step.specs.Steps.{plan-with-flow, checked, attempt, instruction, interrupt-sr, interrupt, one-step};
+ghost use Rattle.step.specs.Steps.{instruction-clocks, interrupt-clocks, step-clocks};
+use bus::Flow;
+use codes::SLOTS;
+use exception::Ended;
+use plan::Plan;
+use step::Taken;
+use step::Tried;
+
+fn plan_with_flow(p: Plan, f: Flow) -> Plan
+    ensures { λ q. ⌜ q ≡ plan-with-flow p f ⌝ }
+{
+    Plan {
+        write: p.write,
+        at: p.at,
+        value: p.value,
+        vector: p.vector,
+        flow: f,
+    }
+}
+
+// The plan, with the fault of a write for which there is no room.
+fn checked(mem: &[u8], p: Plan) -> Plan
+    ensures { λ q. ⌜ q ≡ checked (view-of (now (mem .entry))) p ⌝ }
+{
+    let f = p.flow;
+    let none = p.write == codes::NO_WRITE;
+    let one = p.write < codes::NO_WRITE;
+    if none {
+        return p;
+    }
+    if one {
+        return plan_with_flow(p, bus::room(mem, p.at, p.write, f));
+    }
+    plan_with_flow(p, blocks::block_room(mem, p))
+}
+
+// An instruction, up to its writes: all that it sees are the registers, PC, SR and the view of memory.
+fn attempt(r: &mut [u32; SLOTS], mem: &[u8], f: Flow) -> Tried
+    ensures { λ t. ⌜ record { r = now (r .exit); t = t } ≡ attempt (now (r .entry)) (view-of (now (mem .entry))) f ⌝ }
+    ensures { λ t. ⌜ t .clocks < 512 ⌝ }
+{
+    let w = bus::next_word(mem, f);
+    let g = w.flow;
+    let t = execute::execute(r, mem, w.value, g);
+    let p = t.plan;
+    let q = checked(mem, p);
+    Tried {
+        op: w.value,
+        p: q,
+        clocks: t.clocks,
+    }
+}
+
+// One instruction. The slots before it are lent a second time, as they were.
+fn instruction(
+    s: &mut [u32; SLOTS],
+    before: &[u32; SLOTS],
+    mem: &mut [u8],
+    log: &mut [u64],
+) -> Taken
+    requires { ⌜ LogOk (now mem) (now log) 0 × (70 ≤ length (now log)) ⌝ }
+    requires { ⌜ now before ≡ now s ⌝ }
+    ensures { λ _. ⌜ now (s .exit) ≡ instruction (now (s .entry)) (now (mem .entry)) .s ⌝ }
+    ensures { λ _. ⌜ now (mem .exit) ≡ instruction (now (s .entry)) (now (mem .entry)) .m ⌝ }
+    ensures { λ e. ⌜ e .event ≡ instruction (now (s .entry)) (now (mem .entry)) .event ⌝ }
+    ensures { λ e. ⌜ e .clocks ≡ instruction-clocks (now (s .entry)) (now (mem .entry)) ⌝ }
+    ensures { λ e. ⌜ Noted (now (mem .entry)) (now (log .entry)) 0 70 (now (mem .exit)) (now (log .exit)) (e .n) ⌝ }
+{
+    let sr = s[codes::SR];
+    let pc = s[codes::PC];
+    bank::bank(s);
+    let t = attempt(s, mem, exception::fresh(pc, sr));
+    step::concluded(s, before, mem, log, t)
+}
+
+// An interrupt: the mask becomes its level.
+fn interrupt(
+    s: &mut [u32; SLOTS],
+    mem: &mut [u8],
+    log: &mut [u64],
+    level: u32,
+    vector: u32,
+) -> Ended
+    requires { ⌜ LogOk (now mem) (now log) 0 × (6 ≤ length (now log)) ⌝ }
+    ensures { λ _. ⌜ now (s .exit) ≡ interrupt (now (s .entry)) (now (mem .entry)) level vector .s ⌝ }
+    ensures { λ _. ⌜ now (mem .exit) ≡ interrupt (now (s .entry)) (now (mem .entry)) level vector .m ⌝ }
+    ensures { λ e. ⌜ e .event ≡ interrupt (now (s .entry)) (now (mem .entry)) level vector .event ⌝ }
+    ensures { λ e. ⌜ Noted (now (mem .entry)) (now (log .entry)) 0 6 (now (mem .exit)) (now (log .exit)) (e .n) ⌝ }
+{
+    let sr = interrupt_sr(s[codes::SR], level);
+    exception::exception(s, mem, log, 0, vector, sr)
+}
+
+fn interrupt_sr(sr: u32, level: u32) -> u32
+    ensures { λ r. ⌜ r ≡ interrupt-sr sr level ⌝ }
+{
+    codes::SUPERVISOR + level % 8 * codes::MASK + sr % codes::MASK
+}
+
+// The clocks of an interrupt, none if it halts.
+fn interrupt_clocks(event: u32) -> u32
+    ensures { λ n. ⌜ n ≡ interrupt-clocks event ⌝ }
+{
+    let halted = event == codes::HALT_EVENT;
+    if halted {
+        return 0;
+    }
+    clocks::INTERRUPT_LINE
+}
+
+// One whole step with its request, the slots before it lent a second time: an interrupt that is taken, or nothing where the machine is
+// stopped, or one instruction.
+pub fn one_step(
+    s: &mut [u32; SLOTS],
+    before: &[u32; SLOTS],
+    mem: &mut [u8],
+    log: &mut [u64],
+    level: u32,
+    vector: u32,
+) -> Taken
+    requires { ⌜ LogOk (now mem) (now log) 0 × (70 ≤ length (now log)) ⌝ }
+    requires { ⌜ now before ≡ now s ⌝ }
+    ensures { λ _. ⌜ now (s .exit) ≡ one-step (now (s .entry)) (now (mem .entry)) level vector .s ⌝ }
+    ensures { λ _. ⌜ now (mem .exit) ≡ one-step (now (s .entry)) (now (mem .entry)) level vector .m ⌝ }
+    ensures { λ e. ⌜ e .event ≡ one-step (now (s .entry)) (now (mem .entry)) level vector .event ⌝ }
+    ensures { λ e. ⌜ Noted (now (mem .entry)) (now (log .entry)) 0 70 (now (mem .exit)) (now (log .exit)) (e .n) ⌝ }
+    ensures { λ e. ⌜ e .clocks ≡ step-clocks (now (s .entry)) (now (mem .entry)) level vector ⌝ }
+{
+    let mask = s[codes::SR] / codes::MASK % 8;
+    let taken = (level == codes::TOP_LEVEL) | (mask < level);
+    if taken {
+        let e = interrupt(s, mem, log, level, vector);
+        return Taken {
+            n: e.n,
+            event: e.event,
+            clocks: interrupt_clocks(e.event),
+        };
+    }
+    let running = s[codes::MODE] == codes::RUNNING;
+    if running {
+        return instruction(s, before, mem, log);
+    }
+    Taken {
+        n: 0,
+        event: codes::NO_EVENT,
+        clocks: clocks::STOPPED_CLOCKS,
+    }
+}
