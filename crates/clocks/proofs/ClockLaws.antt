@@ -1,4 +1,4 @@
--- ClockLaws.antt - one law for each return of the functions of clocks.
+-- ClockLaws.antt - one law for each return of the functions of the crate timing.
 -- place-..; operand-is; general-register, -immediate, -memory; NAME-is for each rule.
 -- Uses: bits, flags, bus, operand, bitwise.
 use Prim.Native.Nat.{ℕ, _+_, _*_, _%_, _/_, _<_, _≤_}

@@ -1,5 +1,5 @@
 -- FitsLaws.antt - a block that fits, by its start and its count, has only words that can be written: no word of it need be asked for.
--- fits-when (what fits says); fits-is, span-fits (what the function fits owes); block-room-when-fits.
+-- fits-when (what fits says); fits-is, span-bound (what the function fits of the crate blocks owes); block-room-when-fits.
 -- Uses: bits, bus, plan.
 use Prim.Native.Nat.{ℕ, zero, suc, _+_, _*_, _%_, _/_, _<_, _≤_, _^_}
 use native.Mathlib.Omega.{arith}

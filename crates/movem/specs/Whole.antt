@@ -1,6 +1,6 @@
 -- Whole.antt - a block that lies in memory as a whole: what tells it, and how its list is walked from one to the next. No public promise speaks of
 -- it: laws say that room and memory are those of specs/Movem.antt.
--- Laws: proofs/FitsLaws.antt, proofs/WholeLaws.antt, proofs/ValueLaws.antt.  Source: [K6], [003 B MOVEM].
+-- Laws: proofs/FitsLaws.antt; WholeLaws, ValueLaws of the crate blocks.  Source: [K6], [003 B MOVEM].
 use Prim.Native.Nat.{ℕ, _+_, _*_, _%_, _/_, _^_, _<_, _≤_}
 use mathlib.Core.Path.{_≡_}
 use mathlib.Core.Bool.{Bool, _&&_}

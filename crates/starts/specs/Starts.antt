@@ -1,6 +1,6 @@
 -- Starts.antt - the places where records start; what a list of the oldest of them says, and a table of posts. Places are counted from base, the
 -- bytes that a run has dropped. Not part of any promise: a run keeps them for itself.
--- Met by: src/posts.rt, src/near.rt.  Laws: proofs/StartLaws, SkipLaws, PostLaws, NearLaws, KeepLaws.
+-- Met by: src/posts.rt, src/near.rt.  Laws: proofs/StartLaws, SkipLaws, PostLaws, NearLaws; KeepLaws of the crate held.
 -- Source: [K5], [ours].
 use Prim.Native.Nat.{ℕ, zero, suc, _+_, _-_, _*_, _/_, _%_, _^_, _≤_, _<_}
 use mathlib.Core.Path.{_≡_}

@@ -1,4 +1,4 @@
--- StepLaws.antt - one law for each return of the functions of step, as an equation of whole outcomes where that can be had.
+-- StepLaws.antt - one law for each return of the functions of step and one_step, as an equation of whole outcomes where that can be had.
 -- slots-by, memory-by, event-by take a part of such an equation.
 -- Uses: bits, bus, plan, bank, exception, execute.
 use Prim.Native.Nat.{ℕ, _*_, _%_, _/_}
