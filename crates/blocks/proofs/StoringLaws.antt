@@ -1,5 +1,5 @@
 -- StoringLaws.antt - laws of the loop that stores a block and notes it.
--- sized-bound, sized-room, noted-sized (entries of the log); storing-start, -room, -again, -memory, -noted (the loop).
+-- sized-room, noted-sized (entries of the log); storing-start, -room, -again, -memory, -noted (the loop).
 -- Uses: bits, plan, touch, movem.
 use Prim.Native.Nat.{ℕ, _+_, _*_, _<_, _≤_}
 use native.Mathlib.Omega.{arith}
@@ -24,15 +24,16 @@ four-at-most true b = omega arith
 four-at-most false true = omega arith
 four-at-most false false = omega arith
 
-pub sized-bound : (z : ℕ) → by-size z 1 2 4 ≤ 4
+sized-bound : (z : ℕ) → by-size z 1 2 4 ≤ 4
 unfolding by-size
 sized-bound z = four-at-most (eqb z 0) (eqb z 1)
 
-pub sized-room : (l : List ℕ) (n z : ℕ) → n + 4 ≤ length l → n + by-size z 1 2 4 ≤ length l
-sized-room l n z h = omega (arith, sized-bound z)
+-- so where there are i entries or more, it has room, and has noted no more than these
+pub sized-room : (n z i k : ℕ) → 4 ≤ i → n + i ≤ k → n + by-size z 1 2 4 ≤ k
+sized-room n z i k b h = omega (arith, sized-bound z)
 
-pub noted-sized : (m l : List ℕ) (n : ℕ) (m₁ l₁ : List ℕ) (n₁ z : ℕ) → Noted m l n (by-size z 1 2 4) m₁ l₁ n₁ → Noted m l n 4 m₁ l₁ n₁
-noted-sized m l n m₁ l₁ n₁ z a = noted-within m l n (by-size z 1 2 4) m₁ l₁ n₁ 4 a (sized-bound z)
+pub noted-sized : (m l : List ℕ) (n : ℕ) (m₁ l₁ : List ℕ) (n₁ z i : ℕ) → 4 ≤ i → Noted m l n (by-size z 1 2 4) m₁ l₁ n₁ → Noted m l n i m₁ l₁ n₁
+noted-sized m l n m₁ l₁ n₁ z i b a = noted-within m l n (by-size z 1 2 4) m₁ l₁ n₁ i a (omega (arith, sized-bound z))
 
 -- a block that is being stored: j places of the list are done, with at most four entries each
 pub record Storing (r : List ℕ) (p : Plan) (w : Way) (m₀ l₀ : List ℕ) (n₀ : ℕ) (d₀ : Spot) (j : ℕ) (m l : List ℕ) (n : ℕ) (d : Spot) : Type 0 where

@@ -11,6 +11,7 @@ use lib.Seq.{getD-set-same, getD-set-other}
 use lib.Dec.{ltb, eqb}
 use lib.Count.{onesIn}
 use borrow.Author.Tests.{eqb-true, eqb-false, ne-eqb, lt-leb, lt-ltb, ltb-true, ltb-false}
+use Rattle.codes.specs.Codes.{Slots}
 use Rattle.bits.specs.Bits.{iter}
 use Rattle.bits.proofs.BitsLaws.{and-left, and-right}
 use Rattle.bits.proofs.OnesLaws.{ones-low}
@@ -58,7 +59,7 @@ inside-when-fits len p w f e =
 
 -- ---- the values
 -- register k, of sixteen, among the copied ones: where -(An) lowered one, its first value stands
-module _ (r t : List ℕ) (p : Plan) (h : p .write < 8) (n : length t ≡ 20) (e : t ≡ put r (p .value / 65536) (p .at)) (k : ℕ) (l : k < 16) where
+module _ (r t : List ℕ) (p : Plan) (h : p .write < 8) (n : length t ≡ Slots) (e : t ≡ put r (p .value / 65536) (p .at)) (k : ℕ) (l : k < 16) where
   abbrev own : ℕ
   own = p .value / 65536
 
@@ -75,7 +76,7 @@ module _ (r t : List ℕ) (p : Plan) (h : p .write < 8) (n : length t ≡ 20) (e
           let s : t ≡ set r own (p .at) = e ∙ rw b in
           let q = eqb-true k own c in
           let y = length-set r own (p .at) in
-          let x : length r ≡ 20 = sym y ∙ sym (ap length s) ∙ n in
+          let x : length r ≡ Slots = sym y ∙ sym (ap length s) ∙ n in
           ap (λ (i : ℕ). getD t i 0) q ∙ ap (λ (z : List ℕ). getD z own 0) s ∙ getD-set-same r own (p .at) 0 (omega (arith, x, ltb-true own 17 b))
           ∙ stored-own r (p .at) own k c
       go true false b c =
@@ -89,7 +90,7 @@ module _ (r t : List ℕ) (p : Plan) (h : p .write < 8) (n : length t ≡ 20) (e
   copied-part : getD t k 0 ≡ part-of r p k
   copied-part = part-of-register r p k (getD t k 0) (lt-leb 8 (p .write) h) copied
 
-module _ (r t : List ℕ) (p : Plan) (h : p .write < 8) (x : length t ≡ 20) (e : t ≡ put r (p .value / 65536) (p .at)) (w : Way) where
+module _ (r t : List ℕ) (p : Plan) (h : p .write < 8) (x : length t ≡ Slots) (e : t ≡ put r (p .value / 65536) (p .at)) (w : Way) where
   one-value : (m : List ℕ) (d : Spot) → d .index < 16 → put-one r p w (walk m d) ≡ put-value t w (p .flow) (walk m d)
   unfolding put-one put-part put-value
   one-value m d l = let q = copied-part r t p h x e (d .index) l in rw q
@@ -112,7 +113,7 @@ pub below-start : (l : List ℕ) (n : ℕ) (p : Plan) (w : Way) → w ≡ put-wa
 below-start l n p w e b = rw e b
 
 pub values-memory : (m m₁ r t : List ℕ) (p : Plan) (w : Way) → FitsIn (length m) p → w ≡ put-way p
-    → t ≡ put r (p .value / 65536) (p .at) → length t ≡ 20 → m₁ ≡ put-values t w (p .flow) m → m₁ ≡ block-put m r p
+    → t ≡ put r (p .value / 65536) (p .at) → length t ≡ Slots → m₁ ≡ put-values t w (p .flow) m → m₁ ≡ block-put m r p
 values-memory m m₁ r t p w f e g x h = h ∙ block-put-is-values r t p (f .words .1) x g w e m
 
 -- a block that fits, above all that are noted

@@ -5,6 +5,7 @@ ghost use mathlib.Core.Path.{_≡_};
 ghost use mathlib.Core.Bool.{true};
 ghost use Prim.Native.Nat.{_+_, _≤_};
 ghost use lib.ListN.{length};
+ghost use Rattle.codes.specs.Codes.{Slots};
 ghost use Rattle.bus.specs.Bus.{pins};
 ghost use Rattle.touch.specs.Touch.{AllBelow, LogOk, Noted};
 ghost use Rattle.movem.specs.Movem.{put-way, block-put};
@@ -57,11 +58,11 @@ fn passed(w: Way, d: Spot) -> Spot
 // Puts the values that the list has, from one to the next, and notes what stood there; how many entries the log then has. The way lies in
 // memory as a whole, above all that are noted. That the values are twenty is told back.
 fn store_values(memory: &mut [u8], log: &mut [u64], n: usize, t: &[u32], w: Way, f: Flow) -> usize
-    requires { ⌜ LogOk (now memory) (now log) n × (n + 64 ≤ length (now log)) × (length (now t) ≡ 20) ⌝ }
+    requires { ⌜ LogOk (now memory) (now log) n × (n + 64 ≤ length (now log)) × (length (now t) ≡ Slots) ⌝ }
     requires { ⌜ Inside (length (now memory)) w × AllBelow (now log) n (pins (w .start)) ⌝ }
     ensures memory { λ _. ⌜ now (memory .exit) ≡ put-values (now (t .entry)) w f (now (memory .entry)) ⌝ }
     ensures noted { λ m. ⌜ Noted (now (memory .entry)) (now (log .entry)) n 64 (now (memory .exit)) (now (log .exit)) m ⌝ }
-    ensures twenty { λ _. ⌜ length (now (t .entry)) ≡ 20 ⌝ }
+    ensures twenty { λ _. ⌜ length (now (t .entry)) ≡ Slots ⌝ }
 {
     let mut d = movem::first_spot(w, f);
     let mut m = n;
@@ -87,7 +88,7 @@ fn store_copied(
     requires { ⌜ Inside (length (now memory)) w × AllBelow (now log) n (pins (w .start)) ⌝ }
     ensures memory { λ _. ⌜ now (memory .exit) ≡ put-values (now (t .entry)) w f (now (memory .entry)) ⌝ }
     ensures noted { λ m. ⌜ Noted (now (memory .entry)) (now (log .entry)) n 64 (now (memory .exit)) (now (log .exit)) m ⌝ }
-    ensures twenty { λ _. ⌜ length (now (t .entry)) ≡ 20 ⌝ }
+    ensures twenty { λ _. ⌜ length (now (t .entry)) ≡ Slots ⌝ }
 {
     store_values(memory, log, n, t, w, f)
 }

@@ -1,5 +1,5 @@
 // lib.rt - the end of an instruction: its writes, its trap and the trace after it, or its fault; and the clocks of all that.
-// Means: specs/Steps.antt; a whole step in code is crate one_step.  Laws: proofs/StepLaws.antt, proofs/NotedLaws.antt, proofs/ClockLaws.antt.
+// Means: specs/Steps.antt; a whole step in code is crate one_step.  Laws: proofs/StepLaws.antt, proofs/ClockLaws.antt.
 // Uses: codes, bits, plan, timing, blocks, store, touch, bank, exception.  Source: [003 4.4.8], [01 step 5], [01 step 6], [01 step 7], [K2].
 ghost use mathlib.Core.Path.{_≡_};
 ghost use Prim.Native.Nat.{_+_, _≤_, _<_};

@@ -1,4 +1,5 @@
-use Rattle.step.proofs.NotedLaws.{noted-size, by-size-room}
+use native.Mathlib.Omega.{arith}
+use Rattle.blocks.proofs.StoringLaws.{noted-sized, sized-room}
 use Rattle.step.proofs.StepLaws.{commit-block, commit-one}
 use borrow.Author.Needs.{needs}
 use Rattle.step.proofs.commit.Statement.{statement}
@@ -7,5 +8,5 @@ use Rattle.step.proofs.commit.Tie as tie
 pub commit-spec : {M : Type 1} → statement M
 commit-spec =
     tie.close (tie.spec
-    (λ c κs. (search needs, search (by-size-room, needs))) (λ c. search needs) (λ c. search needs) (λ c. (search commit-one, search noted-size))
+    (λ c κs. (search needs, sized-room _ _ 64 _ (omega arith) (search needs))) (λ c. search needs) (λ c. search needs) (λ c. (search commit-one, search (noted-sized, needs)))
     (λ c κs. search needs) (λ c. search needs) (λ c. search needs) (λ c. (search commit-block, search needs)))
