@@ -2,9 +2,11 @@
 // Means: specs/Bitwise.antt.  Laws: proofs/BitwiseLaws.antt.
 // Uses: codes, bits, flags, alu, shift, bus, operand, plan.  Source: [003 3.5], [003 3.6], [003 B], [01 Arithmetic].
 ghost use mathlib.Core.Path.{_≡_};
+ghost use mathlib.Core.List.{map};
 ghost use Rattle.bus.specs.Bus.{view-of};
 ghost use Rattle.bitwise.specs.Bitwise.{shift-count, shift-place, shift-register, shift-memory, bit-size, bit-place, bit-dynamic, bit-static};
 use bus::Flow;
+use bus::Parts;
 use codes::SLOTS;
 use plan::Plan;
 
@@ -26,11 +28,11 @@ fn shift_place(
     mode: u32,
     z: u32,
     r: &mut [u32; SLOTS],
-    mem: &[u8],
+    mem: &Parts,
     op: u32,
     f: Flow,
 ) -> Plan
-    ensures { λ p. ⌜ record { r = now (r .exit); p = p } ≡ shift-place k n mode z (now (r .entry)) (view-of (now (mem .entry))) op f ⌝ }
+    ensures { λ p. ⌜ record { r = now (r .exit); p = p } ≡ shift-place k n mode z (now (r .entry)) (view-of (map now (now (mem .entry)))) op f ⌝ }
 {
     let left = op / 256 % 2 == 1;
     let d = operand::modify(r, mem, mode, op % 8, z, f);
@@ -40,16 +42,16 @@ fn shift_place(
 }
 
 // A data register, at any size.
-pub fn shift_register(r: &mut [u32; SLOTS], mem: &[u8], op: u32, f: Flow) -> Plan
-    ensures { λ p. ⌜ record { r = now (r .exit); p = p } ≡ shift-register (now (r .entry)) (view-of (now (mem .entry))) op f ⌝ }
+pub fn shift_register(r: &mut [u32; SLOTS], mem: &Parts, op: u32, f: Flow) -> Plan
+    ensures { λ p. ⌜ record { r = now (r .exit); p = p } ≡ shift-register (now (r .entry)) (view-of (map now (now (mem .entry)))) op f ⌝ }
 {
     let n = shift_count(r, op);
     shift_place(op / 8 % 4, n, codes::IN_DATA, op / 64 % 4, r, mem, op, f)
 }
 
 // A word in memory, one place.
-pub fn shift_memory(r: &mut [u32; SLOTS], mem: &[u8], op: u32, f: Flow) -> Plan
-    ensures { λ p. ⌜ record { r = now (r .exit); p = p } ≡ shift-memory (now (r .entry)) (view-of (now (mem .entry))) op f ⌝ }
+pub fn shift_memory(r: &mut [u32; SLOTS], mem: &Parts, op: u32, f: Flow) -> Plan
+    ensures { λ p. ⌜ record { r = now (r .exit); p = p } ≡ shift-memory (now (r .entry)) (view-of (map now (now (mem .entry)))) op f ⌝ }
 {
     shift_place(op / 512 % 4, 1, op / 8 % 8, codes::WORD, r, mem, op, f)
 }
@@ -63,8 +65,8 @@ fn bit_size(op: u32) -> u32
 }
 
 // BTST, BCHG, BCLR, BSET of bit n; BTST writes nothing.
-fn bit_place(n: u32, r: &mut [u32; SLOTS], mem: &[u8], op: u32, f: Flow) -> Plan
-    ensures { λ p. ⌜ record { r = now (r .exit); p = p } ≡ bit-place n (now (r .entry)) (view-of (now (mem .entry))) op f ⌝ }
+fn bit_place(n: u32, r: &mut [u32; SLOTS], mem: &Parts, op: u32, f: Flow) -> Plan
+    ensures { λ p. ⌜ record { r = now (r .exit); p = p } ≡ bit-place n (now (r .entry)) (view-of (map now (now (mem .entry)))) op f ⌝ }
 {
     let z = bit_size(op);
     let k = op / 64 % 4;
@@ -80,16 +82,16 @@ fn bit_place(n: u32, r: &mut [u32; SLOTS], mem: &[u8], op: u32, f: Flow) -> Plan
 }
 
 // The bit's number is in a data register.
-pub fn bit_dynamic(r: &mut [u32; SLOTS], mem: &[u8], op: u32, f: Flow) -> Plan
-    ensures { λ p. ⌜ record { r = now (r .exit); p = p } ≡ bit-dynamic (now (r .entry)) (view-of (now (mem .entry))) op f ⌝ }
+pub fn bit_dynamic(r: &mut [u32; SLOTS], mem: &Parts, op: u32, f: Flow) -> Plan
+    ensures { λ p. ⌜ record { r = now (r .exit); p = p } ≡ bit-dynamic (now (r .entry)) (view-of (map now (now (mem .entry)))) op f ⌝ }
 {
     let n = operand::get(r, op / 512 % 8);
     bit_place(n, r, mem, op, f)
 }
 
 // The bit's number is in the word after the operation word.
-pub fn bit_static(r: &mut [u32; SLOTS], mem: &[u8], op: u32, f: Flow) -> Plan
-    ensures { λ p. ⌜ record { r = now (r .exit); p = p } ≡ bit-static (now (r .entry)) (view-of (now (mem .entry))) op f ⌝ }
+pub fn bit_static(r: &mut [u32; SLOTS], mem: &Parts, op: u32, f: Flow) -> Plan
+    ensures { λ p. ⌜ record { r = now (r .exit); p = p } ≡ bit-static (now (r .entry)) (view-of (map now (now (mem .entry)))) op f ⌝ }
 {
     let w = bus::next_word(mem, f);
     let g = w.flow;

@@ -45,7 +45,7 @@ way-list p h = go (eqb (p .write / 2) 2) refl
     go true e = let w = way-up p h (eqb-true (p .write / 2) 2 e) in rw w (omega arith, ones-low 16 (p .value))
     go false e = let w = way-down p h (omega (arith, eqb-false (p .write / 2) 2 e)) in rw w (mirrored-small (p .value), ones-of-mirrored (p .value))
 
-pub inside-when-fits : (len : ℕ) (p : Plan) (w : Way) → FitsIn len p → w ≡ put-way p → Inside len w
+pub inside-when-fits : (len : ℕ) (p : Plan) (w : Way) → FitsIn 0 len p → w ≡ put-way p → Inside len w
 inside-when-fits len p w f e =
     let z = way-sizes p (f .words) in
     let l = way-list p (f .words) in
@@ -112,11 +112,11 @@ module _ (r t : List ℕ) (p : Plan) (h : p .write < 8) (x : length t ≡ Slots)
 pub below-start : (l : List ℕ) (n : ℕ) (p : Plan) (w : Way) → w ≡ put-way p → AllBelow l n (pins (put-way p .start)) → AllBelow l n (pins (w .start))
 below-start l n p w e b = rw e b
 
-pub values-memory : (m m₁ r t : List ℕ) (p : Plan) (w : Way) → FitsIn (length m) p → w ≡ put-way p
+pub values-memory : (m m₁ r t : List ℕ) (p : Plan) (w : Way) → FitsIn 0 (length m) p → w ≡ put-way p
     → t ≡ put r (p .value / 65536) (p .at) → length t ≡ Slots → m₁ ≡ put-values t w (p .flow) m → m₁ ≡ block-put m r p
 values-memory m m₁ r t p w f e g x h = h ∙ block-put-is-values r t p (f .words .1) x g w e m
 
 -- a block that fits, above all that are noted
-pub whole-taken : (m l : List ℕ) (n : ℕ) (p : Plan) (w : Way) (a b : Bool) → w ≡ put-way p → a ≡ fits (length m) p
-    → (b ≡ true → AllBelow l n (pins (w .start))) → (a && b) ≡ true → (fits (length m) p ≡ true) × AllBelow l n (pins (put-way p .start))
+pub whole-taken : (m l : List ℕ) (n : ℕ) (p : Plan) (w : Way) (a b : Bool) → w ≡ put-way p → a ≡ fits 0 (length m) p
+    → (b ≡ true → AllBelow l n (pins (w .start))) → (a && b) ≡ true → (fits 0 (length m) p ≡ true) × AllBelow l n (pins (put-way p .start))
 whole-taken m l n p w a b e g h t = (sym g ∙ and-left a b t, rw (← e) (h (and-right a b t)))

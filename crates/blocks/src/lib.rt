@@ -2,6 +2,7 @@
 // Means: specs/Movem.antt of the crate movem.  Laws: proofs/StoringLaws.antt here, MovemLaws and BlockLaws there.
 // Uses: codes, bits, bus, operand, plan, store, touch, movem.  Source: [003 B MOVEM], [003 B MOVEP], [01 step 6], [01 Operands], [K6].
 ghost use mathlib.Core.Path.{_≡_};
+ghost use mathlib.Core.List.{map};
 ghost use Prim.Native.Nat.{_+_, _*_, _%_, _/_, _<_, _≤_};
 ghost use lib.ListN.{length};
 ghost use Rattle.bus.specs.Bus.{view-of};
@@ -12,6 +13,7 @@ ghost use Rattle.movem.specs.Movem.{put-part, block-put};
 mod whole;
 
 use bus::Flow;
+use bus::Parts;
 use codes::SLOTS;
 use movem::Spot;
 use movem::Way;
@@ -49,8 +51,8 @@ fn room_way(p: Plan) -> Way
     }
 }
 
-fn room_one(mem: &[u8], w: Way, d: Spot) -> Spot
-    ensures { λ e. ⌜ e ≡ room-one (view-of (now (mem .entry))) w d ⌝ }
+fn room_one(mem: &Parts, w: Way, d: Spot) -> Spot
+    ensures { λ e. ⌜ e ≡ room-one (view-of (map now (now (mem .entry)))) w d ⌝ }
 {
     let f = d.flow;
     let on = d.list % 2 == 1;
@@ -61,8 +63,8 @@ fn room_one(mem: &[u8], w: Way, d: Spot) -> Spot
     movem::next_spot(w, d, f)
 }
 
-fn room_list(mem: &[u8], w: Way, f: Flow) -> Spot
-    ensures { λ e. ⌜ e ≡ room-list (view-of (now (mem .entry))) w f ⌝ }
+fn room_list(mem: &Parts, w: Way, f: Flow) -> Spot
+    ensures { λ e. ⌜ e ≡ room-list (view-of (map now (now (mem .entry)))) w f ⌝ }
 {
     let mut d = movem::first_spot(w, f);
     let mut j: u32 = 0;
@@ -73,13 +75,13 @@ fn room_list(mem: &[u8], w: Way, f: Flow) -> Spot
     d
 }
 
-// The flow with the fault that the block's writes meet first, if any. Where all of the block lies in memory none does, and no word of it is
+// The flow with the fault that the block's writes meet first, if any. Where all of the block may be touched none does, and no word of it is
 // asked for.
-pub fn block_room(mem: &[u8], p: Plan) -> Flow
-    ensures { λ g. ⌜ g ≡ block-room (view-of (now (mem .entry))) p ⌝ }
+pub fn block_room(mem: &Parts, p: Plan) -> Flow
+    ensures { λ g. ⌜ g ≡ block-room (view-of (map now (now (mem .entry)))) p ⌝ }
 {
     let f = p.flow;
-    let whole = whole::fits(mem, p);
+    let whole = whole::fits(bus::low(mem), bus::below(mem).len(), p);
     if whole {
         return f;
     }
@@ -208,7 +210,7 @@ pub fn block_store(memory: &mut [u8], log: &mut [u64], n: usize, r: &[u32; SLOTS
     ensures noted { λ m. ⌜ Noted (now (memory .entry)) (now (log .entry)) n 64 (now (memory .exit)) (now (log .exit)) m ⌝ }
 {
     let w = put_way(p);
-    if whole::fits(memory, p) & touch::above(log, n, w.start % codes::ADDRESSES) {
+    if whole::fits(0, memory.len(), p) & touch::above(log, n, w.start % codes::ADDRESSES) {
         return whole::store_whole(memory, log, n, r, p);
     }
     store_list(memory, log, n, r, p)

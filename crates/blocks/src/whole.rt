@@ -16,15 +16,17 @@ use movem::Spot;
 use movem::Way;
 use plan::Plan;
 
-// Whether a block of words lies in memory as a whole, from an even start.
-pub fn fits(mem: &[u8], p: Plan) -> bool
-    ensures { λ b. ⌜ b ≡ fits (length (now (mem .entry))) p ⌝ }
+// Whether a block of words lies as a whole from one address to below another, from an even start.
+pub fn fits(lo: usize, hi: usize, p: Plan) -> bool
+    ensures { λ b. ⌜ b ≡ fits lo hi p ⌝ }
 {
     let w = crate::put_way(p);
     let n = bits::ones_of(p.value) * w.step;
     let words = (codes::BLOCK_UP <= p.write) & (p.write < codes::EVERY_OTHER);
     let even = w.start % 2 == 0;
-    words & even & ((w.start % codes::ADDRESSES) as usize + (n as usize) <= mem.len())
+    let start = (w.start % codes::ADDRESSES) as usize;
+    let end = start + (n as usize);
+    words & even & (lo <= start) & (end <= hi) & (end <= codes::ADDRESSES as usize)
 }
 
 // The walk at the next register that the list has.
@@ -97,7 +99,7 @@ fn store_copied(
 // the first value of the one that -(An) lowered: then none is asked whether it is that one.
 pub fn store_whole(memory: &mut [u8], log: &mut [u64], n: usize, r: &[u32; SLOTS], p: Plan) -> usize
     requires { ⌜ LogOk (now memory) (now log) n × (n + 64 ≤ length (now log)) ⌝ }
-    requires { ⌜ (fits (length (now memory)) p ≡ true) × AllBelow (now log) n (pins (put-way p .start)) ⌝ }
+    requires { ⌜ (fits 0 (length (now memory)) p ≡ true) × AllBelow (now log) n (pins (put-way p .start)) ⌝ }
     ensures memory { λ _. ⌜ now (memory .exit) ≡ block-put (now (memory .entry)) (now (r .entry)) p ⌝ }
     ensures noted { λ m. ⌜ Noted (now (memory .entry)) (now (log .entry)) n 64 (now (memory .exit)) (now (log .exit)) m ⌝ }
 {

@@ -1,44 +1,75 @@
--- BusLaws.antt - one law for each return of the functions of bus: the two leaf reads on memory itself, all others over any view.
--- Only the leaf laws open `view-of`.
+-- BusLaws.antt - one law for each return of the functions of bus: the two leaf reads on the parts, all others over any view; and that the
+-- parts of all of a memory show all of it. Only these and the leaf laws open `view-of`.
 -- Uses: bits.
-use Prim.Native.Nat.{ℕ, _+_, _*_, _%_}
-use mathlib.Core.Path.{_≡_}
-use mathlib.Core.Bool.{true, false}
-use mathlib.Core.List.{List}
+use Prim.Native.Nat.{ℕ, zero, suc, _+_, _*_, _%_, _<_}
+use native.Mathlib.Omega.{arith}
+use mathlib.Core.Path.{_≡_, refl, ap}
+use mathlib.Core.Bool.{Bool, true, false, _&&_}
+use mathlib.Core.List.{List, [], _∷_, map}
 use lib.ListN.{length, getD}
-use lib.Dec.{ltb, eqb}
-use Rattle.bits.specs.Bits.{plus, by-size}
+use lib.Dec.{ltb, leb, eqb}
+use borrow.Author.Tests.{ltb-true, le-leb}
+use Rattle.bits.specs.Bits.{pick, plus, by-size}
+use Rattle.bits.proofs.BitsLaws.{and-right}
 use Rattle.bus.specs.declared.Flow.{Flow}
 use Rattle.bus.specs.declared.Fetched.{Fetched}
-use Rattle.bus.specs.Bus.{View, view-of, pins, failed, with-pc, read-byte, read-word, read-long, read-sized, room, next-word, next-long}
+use Rattle.bus.specs.Bus.{View, two-at, all-of, part, view-of, whole, pins, failed, with-pc, read-byte, read-word, read-long, read-sized, room, next-word, next-long}
 
 abbrev fetched : ℕ → Flow → Fetched
 fetched v f = record { value = v; flow = f }
 
--- the two leaves
-module _ (m : List ℕ) (a k : ℕ) (f : Flow) where
-  module _ (c : eqb (f .bad) 0 ≡ true) where
-    pub byte-inside : (v : ℕ) → ltb (pins a) (length m) ≡ true → v ≡ getD m (pins a) 0 → fetched v f ≡ read-byte (view-of m) a k f
+-- what the second of two tests says
+pub and-lt : (x : Bool) (a b : ℕ) → (x && ltb a b) ≡ true → a < b
+and-lt x a b e = ltb-true a b (and-right x (ltb a b) e)
+
+pub and-lt-before : (x : Bool) (a b : ℕ) → (x && ltb (a + 1) b) ≡ true → a < b
+and-lt-before x a b e = omega (arith, and-lt x (a + 1) b e)
+
+-- the part at i of a list of loans
+pub part-is : {A : Type 0} (g : A → List ℕ) (l : List A) (i : ℕ) (d : A) → g (getD l i d) ≡ getD (map g l) i (g d)
+part-is g [] i d = refl
+part-is g (x ∷ xs) zero d = refl
+part-is g (x ∷ xs) (suc i) d = part-is g xs i d
+
+-- no address lies below an empty part
+from-none : (a : ℕ) (b : Bool) → (leb (length {A = ℕ} []) a && b) ≡ b
+from-none a b = ap (λ (x : Bool). x && b) (le-leb 0 a (omega arith))
+
+pub whole-shows : (m : List ℕ) → view-of (whole m) ≡ all-of m
+unfolding view-of all-of
+whole-shows m =
+    λ j.
+    record {
+      byte-ok = λ a. from-none a (ltb a (length m)) j;
+      word-ok = λ a. from-none a (ltb (a + 1) (length m)) j;
+      byte = λ a. pick (from-none a (ltb a (length m)) j) (getD m a 0) 0;
+      word = λ a. pick (from-none a (ltb (a + 1) (length m)) j) (two-at m a) 0;
+    }
+
+-- the two leaves: first is the length of the first part, m the second
+module _ (q : List (List ℕ)) (a k : ℕ) (f : Flow) (first : ℕ) (m : List ℕ) where
+  module _ (c : eqb (f .bad) 0 ≡ true) (l : first ≡ length (part q 0)) (h : m ≡ part q 1) where
+    pub byte-inside : (v : ℕ) → (leb first (pins a) && ltb (pins a) (length m)) ≡ true → v ≡ getD m (pins a) 0 → fetched v f ≡ read-byte (view-of q) a k f
     unfolding read-byte view-of
     byte-inside v t e = cc
 
-    pub byte-outside : (g : Flow) → ltb (pins a) (length m) ≡ false → g ≡ failed f 2 (pins a) k → fetched 0 g ≡ read-byte (view-of m) a k f
+    pub byte-outside : (g : Flow) → (leb first (pins a) && ltb (pins a) (length m)) ≡ false → g ≡ failed f 2 (pins a) k → fetched 0 g ≡ read-byte (view-of q) a k f
     unfolding read-byte view-of
     byte-outside g t e = cc
 
-    pub word-odd : (g : Flow) → eqb (pins a % 2) 1 ≡ true → g ≡ failed f 3 (pins a) k → fetched 0 g ≡ read-word (view-of m) a k f
-    unfolding read-word
-    word-odd g t e = cc
-
-    pub word-inside : (x y : ℕ) → eqb (pins a % 2) 1 ≡ false → ltb (pins a + 1) (length m) ≡ true → x ≡ getD m (pins a) 0 → y ≡ getD m (pins a + 1) 0 → fetched (x * 256 + y) f ≡ read-word (view-of m) a k f
+    pub word-inside : (x y : ℕ) → eqb (pins a % 2) 1 ≡ false → (leb first (pins a) && ltb (pins a + 1) (length m)) ≡ true → x ≡ getD m (pins a) 0 → y ≡ getD m (pins a + 1) 0 → fetched (x * 256 + y) f ≡ read-word (view-of q) a k f
     unfolding read-word view-of
     word-inside x y o t e d = cc
 
-    pub word-outside : (g : Flow) → eqb (pins a % 2) 1 ≡ false → ltb (pins a + 1) (length m) ≡ false → g ≡ failed f 2 (pins a) k → fetched 0 g ≡ read-word (view-of m) a k f
+    pub word-outside : (g : Flow) → eqb (pins a % 2) 1 ≡ false → (leb first (pins a) && ltb (pins a + 1) (length m)) ≡ false → g ≡ failed f 2 (pins a) k → fetched 0 g ≡ read-word (view-of q) a k f
     unfolding read-word view-of
     word-outside g o t e = cc
 
 module _ (v : View) (a k : ℕ) (f : Flow) where
+  pub word-odd : (g : Flow) → eqb (f .bad) 0 ≡ true → eqb (pins a % 2) 1 ≡ true → g ≡ failed f 3 (pins a) k → fetched 0 g ≡ read-word v a k f
+  unfolding read-word
+  word-odd g c t e = cc
+
   pub byte-when-failed : eqb (f .bad) 0 ≡ false → fetched 0 f ≡ read-byte v a k f
   unfolding read-byte
   byte-when-failed c = cc

@@ -1,15 +1,17 @@
 -- Bus.antt - what an access to lent memory gives: a value, or the fault that the instruction then carries; and what a put leaves.
--- Not modelled: bus cycles, prefetch. The instruction layers read memory only through a `View`: K7's window and K10's ROM will change how
--- a view is made and nothing above. Laws: proofs/BusLaws.antt.  Source: [003 2.4], [003 4-1], [003 4.4.9], [003 4.4.10], [01 step 6], [01 step 7].
+-- Not modelled: bus cycles, prefetch. The instruction layers see memory only through a `View`: what a state may touch of it is `seen-by`,
+-- and nothing above it knows of the window. Laws: proofs/BusLaws.antt; crate reach shows that the parts that the code lends show it.
+-- Source: [003 2.4], [003 4-1], [003 4.4.9], [003 4.4.10], [01 step 6], [01 step 7], [K7].
 use Prim.Native.Nat.{ℕ, _+_, _*_, _%_, _/_}
-use mathlib.Core.Bool.{Bool}
-use mathlib.Core.List.{List}
+use mathlib.Core.Bool.{Bool, _&&_, _||_}
+use mathlib.Core.List.{List, [], _∷_}
 use lib.ListN.{length, getD, set}
-use lib.Dec.{ltb, eqb}
+use lib.Dec.{ltb, leb, eqb}
 use Rattle.codes.specs.Codes.{Supervisor, Addresses, BusError, AddressError, ProgramRead, DataWrite}
 use Rattle.bits.specs.Bits.{pick, plus, by-size}
 use Rattle.bus.specs.declared.Flow.{Flow}
 use Rattle.bus.specs.declared.Fetched.{Fetched}
+use Rattle.bus.specs.declared.Window.{Window}
 
 -- the 24 bits of an address that leave the chip  [003 4.3.1] [01 Memory]
 abbrev pub pins : ℕ → ℕ
@@ -22,14 +24,58 @@ pub record View : Type 0 where
   pub byte : ℕ → ℕ
   pub word : ℕ → ℕ
 
--- all of a lent memory, high byte first  [003 2.4] [01 Memory]
-unfoldable pub view-of : List ℕ → View
-view-of m = record {
+-- the two bytes there, high byte first  [003 2.4] [01 Memory]
+abbrev pub two-at : List ℕ → ℕ → ℕ
+two-at m a = getD m a 0 * 256 + getD m (a + 1) 0
+
+-- all of a memory  [01 Memory]
+unfoldable pub all-of : List ℕ → View
+all-of m = record {
   byte-ok = λ a. ltb a (length m);
   word-ok = λ a. ltb (a + 1) (length m);
   byte = λ a. pick (ltb a (length m)) (getD m a 0) 0;
-  word = λ a. pick (ltb (a + 1) (length m)) (getD m a 0 * 256 + getD m (a + 1) 0) 0;
+  word = λ a. pick (ltb (a + 1) (length m)) (two-at m a) 0;
 }
+
+-- whether a state may touch the n bytes from a on: any in supervisor state, in user state those that lie wholly in the window  [K7]
+abbrev pub allowed : Bool → Window → ℕ → ℕ → Bool
+allowed sup win a n = sup || (leb (win .lo) a && leb (a + n) (win .hi))
+
+-- what a state may touch of a memory, to read or to write it, and what it finds there  [K7]
+unfoldable pub seen-by : Bool → Window → List ℕ → View
+seen-by sup win m = record {
+  byte-ok = λ a. allowed sup win a 1 && all-of m .byte-ok a;
+  word-ok = λ a. allowed sup win a 2 && all-of m .word-ok a;
+  byte = λ a. pick (allowed sup win a 1) (all-of m .byte a) 0;
+  word = λ a. pick (allowed sup win a 2) (all-of m .word a) 0;
+}
+
+-- ---- what the code lends for a view: memory below the window, of which only the length counts, and memory below the window's end
+
+-- part i of what is lent  [ours]
+abbrev pub part : List (List ℕ) → ℕ → List ℕ
+part q i = getD q i []
+
+-- a byte, a word wholly, from the length of the first part to below that of the second  [ours]
+abbrev pub byte-within : List (List ℕ) → ℕ → Bool
+byte-within q a = leb (length (part q 0)) a && ltb a (length (part q 1))
+
+-- likewise  [ours]
+abbrev pub word-within : List (List ℕ) → ℕ → Bool
+word-within q a = leb (length (part q 0)) a && ltb (a + 1) (length (part q 1))
+
+-- what the parts show  [ours]
+unfoldable pub view-of : List (List ℕ) → View
+view-of q = record {
+  byte-ok = λ a. byte-within q a;
+  word-ok = λ a. word-within q a;
+  byte = λ a. pick (byte-within q a) (getD (part q 1) a 0) 0;
+  word = λ a. pick (word-within q a) (two-at (part q 1) a) 0;
+}
+
+-- the parts that show all of a memory  [ours]
+abbrev pub whole : List ℕ → List (List ℕ)
+whole m = [] ∷ m ∷ []
 
 -- a fault in one number, never 0: the address, the information word, the vector  [ours] [01 step 7]
 abbrev pub packed : ℕ → ℕ → ℕ → ℕ

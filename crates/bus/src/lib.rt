@@ -1,9 +1,23 @@
-// lib.rt - lent memory of any length: reads with their faults, room for a write, and the words of an instruction in turn.
+// lib.rt - memory as a state may see it: reads with their faults, room for a write, and the words of an instruction in turn.
 // Means: specs/Bus.antt.  Laws: proofs/BusLaws.antt.
-// Uses: codes, bits.  Source: [003 2.4], [003 4-1], [003 4.4.9], [003 4.4.10], [01 Memory], [01 step 6], [01 step 7].
+// Uses: codes, bits.  Source: [003 2.4], [003 4-1], [003 4.4.9], [003 4.4.10], [01 Memory], [01 step 6], [01 step 7], [K7].
 ghost use mathlib.Core.Path.{_≡_};
+ghost use mathlib.Core.List.{map};
 ghost use Prim.Native.Nat.{_+_, _*_, _%_, _/_, _<_};
-ghost use Rattle.bus.specs.Bus.{view-of, failed, with-pc, with-sr, read-byte, read-word, read-long, read-sized, room, next-word, next-long};
+ghost use lib.ListN.{length};
+ghost use Rattle.bus.specs.Bus.{part, view-of, whole, failed, with-pc, with-sr, read-byte, read-word, read-long, read-sized, room, next-word, next-long};
+
+// The addresses that user state may touch: from lo to below hi. The host sets it; no step or undo changes it.
+pub struct Window {
+    pub lo: u32,
+    pub hi: u32,
+}
+
+// How many parts of memory are lent for a view: what lies below the window, of which only the length counts, and what lies below the
+// window's end. Addresses are places in the second one.
+pub const PARTS: usize = 2;
+
+pub type Parts<'a> = [&'a [u8]; PARTS];
 
 // Where an instruction stands: the next word's address, the status register, and the fault so far, 0 if none: the 24-bit address
 // of the access times 256, the information word times 4, and the vector, 2 or 3.
@@ -52,18 +66,42 @@ pub fn with_sr(f: Flow, sr: u32) -> Flow
     }
 }
 
-pub fn read_byte(mem: &[u8], a: u32, k: u32, f: Flow) -> Fetched
-    ensures { λ r. ⌜ r ≡ read-byte (view-of (now (mem .entry))) a k f ⌝ }
+// The parts that show all of a memory.
+pub fn whole<'a>(mem: &'a [u8]) -> Parts<'a>
+    ensures { λ r. ⌜ map now r ≡ whole (now (mem .entry)) ⌝ }
+{
+    let none = &mem[0..0];
+    [none, mem]
+}
+
+// The first address that may be touched.
+pub fn low(mem: &Parts) -> usize
+    ensures { λ r. ⌜ r ≡ length (part (map now (now (mem .entry))) 0) ⌝ }
+{
+    mem[0].len()
+}
+
+// Memory below the last one.
+pub fn below<'a, 'b>(mem: &'a Parts<'b>) -> &'b [u8]
+    ensures { λ r. ⌜ now r ≡ part (map now (now (mem .entry))) 1 ⌝ }
+{
+    mem[1]
+}
+
+pub fn read_byte(mem: &Parts, a: u32, k: u32, f: Flow) -> Fetched
+    ensures { λ r. ⌜ r ≡ read-byte (view-of (map now (now (mem .entry)))) a k f ⌝ }
     ensures { λ r. ⌜ r .value < 256 ⌝ }
 {
     let p = a % codes::ADDRESSES;
     let i = p as usize;
     let clean = f.bad == 0;
     if clean {
-        let inside = i < mem.len();
+        let first = low(mem);
+        let there = below(mem);
+        let inside = (first <= i) & (i < there.len());
         if inside {
             Fetched {
-                value: bits::wide(mem[i]),
+                value: bits::wide(there[i]),
                 flow: f,
             }
         } else {
@@ -78,8 +116,8 @@ pub fn read_byte(mem: &[u8], a: u32, k: u32, f: Flow) -> Fetched
 }
 
 // Odd is asked before outside.
-pub fn read_word(mem: &[u8], a: u32, k: u32, f: Flow) -> Fetched
-    ensures { λ r. ⌜ r ≡ read-word (view-of (now (mem .entry))) a k f ⌝ }
+pub fn read_word(mem: &Parts, a: u32, k: u32, f: Flow) -> Fetched
+    ensures { λ r. ⌜ r ≡ read-word (view-of (map now (now (mem .entry)))) a k f ⌝ }
     ensures { λ r. ⌜ r .value < 65536 ⌝ }
 {
     let p = a % codes::ADDRESSES;
@@ -93,10 +131,12 @@ pub fn read_word(mem: &[u8], a: u32, k: u32, f: Flow) -> Fetched
                 flow: failed(f, codes::ADDRESS_ERROR, p, k),
             };
         }
-        let inside = i + 1 < mem.len();
+        let first = low(mem);
+        let there = below(mem);
+        let inside = (first <= i) & (i + 1 < there.len());
         if inside {
             Fetched {
-                value: bits::wide(mem[i]) * 256 + bits::wide(mem[i + 1]),
+                value: bits::wide(there[i]) * 256 + bits::wide(there[i + 1]),
                 flow: f,
             }
         } else {
@@ -111,8 +151,8 @@ pub fn read_word(mem: &[u8], a: u32, k: u32, f: Flow) -> Fetched
 }
 
 // Two words, the upper first.
-pub fn read_long(mem: &[u8], a: u32, k: u32, f: Flow) -> Fetched
-    ensures { λ r. ⌜ r ≡ read-long (view-of (now (mem .entry))) a k f ⌝ }
+pub fn read_long(mem: &Parts, a: u32, k: u32, f: Flow) -> Fetched
+    ensures { λ r. ⌜ r ≡ read-long (view-of (map now (now (mem .entry)))) a k f ⌝ }
 {
     let h = read_word(mem, a, k, f);
     let hf = h.flow;
@@ -124,8 +164,8 @@ pub fn read_long(mem: &[u8], a: u32, k: u32, f: Flow) -> Fetched
     }
 }
 
-pub fn read_sized(mem: &[u8], a: u32, z: u32, k: u32, f: Flow) -> Fetched
-    ensures { λ r. ⌜ r ≡ read-sized (view-of (now (mem .entry))) a z k f ⌝ }
+pub fn read_sized(mem: &Parts, a: u32, z: u32, k: u32, f: Flow) -> Fetched
+    ensures { λ r. ⌜ r ≡ read-sized (view-of (map now (now (mem .entry)))) a z k f ⌝ }
 {
     let byte = z == 0;
     let word = z == 1;
@@ -140,8 +180,8 @@ pub fn read_sized(mem: &[u8], a: u32, z: u32, k: u32, f: Flow) -> Fetched
 
 // Whether that many bytes can be written there, as the fault that the flow then carries. Not by read_sized: here nothing is done with what
 // is read, so the compiler reads nothing.
-pub fn room(mem: &[u8], a: u32, z: u32, f: Flow) -> Flow
-    ensures { λ r. ⌜ r ≡ room (view-of (now (mem .entry))) a z f ⌝ }
+pub fn room(mem: &Parts, a: u32, z: u32, f: Flow) -> Flow
+    ensures { λ r. ⌜ r ≡ room (view-of (map now (now (mem .entry)))) a z f ⌝ }
 {
     let byte = z == 0;
     let word = z == 1;
@@ -158,8 +198,8 @@ pub fn room(mem: &[u8], a: u32, z: u32, f: Flow) -> Flow
 }
 
 // The next word of the instruction.
-pub fn next_word(mem: &[u8], f: Flow) -> Fetched
-    ensures { λ r. ⌜ r ≡ next-word (view-of (now (mem .entry))) f ⌝ }
+pub fn next_word(mem: &Parts, f: Flow) -> Fetched
+    ensures { λ r. ⌜ r ≡ next-word (view-of (map now (now (mem .entry)))) f ⌝ }
     ensures { λ r. ⌜ r .value < 65536 ⌝ }
 {
     let pc = f.pc;
@@ -172,8 +212,8 @@ pub fn next_word(mem: &[u8], f: Flow) -> Fetched
     }
 }
 
-pub fn next_long(mem: &[u8], f: Flow) -> Fetched
-    ensures { λ r. ⌜ r ≡ next-long (view-of (now (mem .entry))) f ⌝ }
+pub fn next_long(mem: &Parts, f: Flow) -> Fetched
+    ensures { λ r. ⌜ r ≡ next-long (view-of (map now (now (mem .entry)))) f ⌝ }
 {
     let h = next_word(mem, f);
     let hf = h.flow;

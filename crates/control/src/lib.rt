@@ -2,19 +2,21 @@
 // Means: specs/Control.antt.  Laws: proofs/ControlLaws.antt.
 // Uses: codes, bits, flags, bus, operand, plan.  Source: [003 3.8], [003 B], [01 step 6], [01 Operands], [01 Easy slips].
 ghost use mathlib.Core.Path.{_≡_};
+ghost use mathlib.Core.List.{map};
 ghost use Rattle.bus.specs.Bus.{view-of};
 ghost use Rattle.plan.specs.Plans.{nothing};
 ghost use Rattle.control.specs.Control.{displacement, jump-when, counted, branch-plan, branch-subroutine, decrement-branch, set-condition};
 ghost use Rattle.control.specs.Control.{jump-plan, jump-subroutine, return-restore, return-subroutine};
 use bus::Fetched;
 use bus::Flow;
+use bus::Parts;
 use codes::SLOTS;
 use flags::Flagged;
 use plan::Plan;
 
 // The displacement of a branch: the operation word's byte, $FF too; the next word where that is 0.
-fn displacement(mem: &[u8], op: u32, f: Flow) -> Fetched
-    ensures { λ w. ⌜ w ≡ displacement (view-of (now (mem .entry))) op f ⌝ }
+fn displacement(mem: &Parts, op: u32, f: Flow) -> Fetched
+    ensures { λ w. ⌜ w ≡ displacement (view-of (map now (now (mem .entry)))) op f ⌝ }
 {
     let none = op % 256 == 0;
     if none {
@@ -41,8 +43,8 @@ fn jump_when(taken: bool, f: Flow, to: u32) -> Plan
 }
 
 // Bcc and BRA.
-pub fn branch(mem: &[u8], op: u32, f: Flow) -> Plan
-    ensures { λ p. ⌜ p ≡ branch-plan (view-of (now (mem .entry))) op f ⌝ }
+pub fn branch(mem: &Parts, op: u32, f: Flow) -> Plan
+    ensures { λ p. ⌜ p ≡ branch-plan (view-of (map now (now (mem .entry)))) op f ⌝ }
 {
     let w = displacement(mem, op, f);
     let g = w.flow;
@@ -51,8 +53,8 @@ pub fn branch(mem: &[u8], op: u32, f: Flow) -> Plan
 }
 
 // BSR.
-pub fn branch_subroutine(r: &mut [u32; SLOTS], mem: &[u8], op: u32, f: Flow) -> Plan
-    ensures { λ p. ⌜ record { r = now (r .exit); p = p } ≡ branch-subroutine (now (r .entry)) (view-of (now (mem .entry))) op f ⌝ }
+pub fn branch_subroutine(r: &mut [u32; SLOTS], mem: &Parts, op: u32, f: Flow) -> Plan
+    ensures { λ p. ⌜ record { r = now (r .exit); p = p } ≡ branch-subroutine (now (r .entry)) (view-of (map now (now (mem .entry)))) op f ⌝ }
 {
     let w = displacement(mem, op, f);
     let g = w.flow;
@@ -68,8 +70,8 @@ fn counted(r: &[u32; SLOTS], n: u32) -> u32
 }
 
 // DBcc.
-pub fn decrement_branch(r: &mut [u32; SLOTS], mem: &[u8], op: u32, f: Flow) -> Plan
-    ensures { λ p. ⌜ record { r = now (r .exit); p = p } ≡ decrement-branch (now (r .entry)) (view-of (now (mem .entry))) op f ⌝ }
+pub fn decrement_branch(r: &mut [u32; SLOTS], mem: &Parts, op: u32, f: Flow) -> Plan
+    ensures { λ p. ⌜ record { r = now (r .exit); p = p } ≡ decrement-branch (now (r .entry)) (view-of (map now (now (mem .entry)))) op f ⌝ }
 {
     let w = bus::next_word(mem, f);
     let g = w.flow;
@@ -88,8 +90,8 @@ pub fn decrement_branch(r: &mut [u32; SLOTS], mem: &[u8], op: u32, f: Flow) -> P
 }
 
 // Scc. The flags stay as they are.
-pub fn set_condition(r: &mut [u32; SLOTS], mem: &[u8], op: u32, f: Flow) -> Plan
-    ensures { λ p. ⌜ record { r = now (r .exit); p = p } ≡ set-condition (now (r .entry)) (view-of (now (mem .entry))) op f ⌝ }
+pub fn set_condition(r: &mut [u32; SLOTS], mem: &Parts, op: u32, f: Flow) -> Plan
+    ensures { λ p. ⌜ record { r = now (r .exit); p = p } ≡ set-condition (now (r .entry)) (view-of (map now (now (mem .entry)))) op f ⌝ }
 {
     let b = operand::modify(r, mem, op / 8 % 8, op % 8, codes::BYTE, f);
     let q = b.q;
@@ -102,8 +104,8 @@ pub fn set_condition(r: &mut [u32; SLOTS], mem: &[u8], op: u32, f: Flow) -> Plan
 }
 
 // JMP.
-pub fn jump_to(r: &[u32; SLOTS], mem: &[u8], op: u32, f: Flow) -> Plan
-    ensures { λ p. ⌜ p ≡ jump-plan (now (r .entry)) (view-of (now (mem .entry))) op f ⌝ }
+pub fn jump_to(r: &[u32; SLOTS], mem: &Parts, op: u32, f: Flow) -> Plan
+    ensures { λ p. ⌜ p ≡ jump-plan (now (r .entry)) (view-of (map now (now (mem .entry)))) op f ⌝ }
 {
     let q = operand::locate(r, mem, op / 8 % 8, op % 8, codes::LONG, f);
     let g = q.flow;
@@ -111,8 +113,8 @@ pub fn jump_to(r: &[u32; SLOTS], mem: &[u8], op: u32, f: Flow) -> Plan
 }
 
 // JSR. The address is formed before A7 falls.
-pub fn jump_subroutine(r: &mut [u32; SLOTS], mem: &[u8], op: u32, f: Flow) -> Plan
-    ensures { λ p. ⌜ record { r = now (r .exit); p = p } ≡ jump-subroutine (now (r .entry)) (view-of (now (mem .entry))) op f ⌝ }
+pub fn jump_subroutine(r: &mut [u32; SLOTS], mem: &Parts, op: u32, f: Flow) -> Plan
+    ensures { λ p. ⌜ record { r = now (r .exit); p = p } ≡ jump-subroutine (now (r .entry)) (view-of (map now (now (mem .entry)))) op f ⌝ }
 {
     let q = operand::locate(r, mem, op / 8 % 8, op % 8, codes::LONG, f);
     let g = q.flow;
@@ -128,8 +130,8 @@ pub fn no_operation(f: Flow) -> Plan
 }
 
 // RTR. Of the word only the flags are taken; the jump comes before SR is written.
-pub fn return_restore(r: &mut [u32; SLOTS], mem: &[u8], op: u32, f: Flow) -> Plan
-    ensures { λ p. ⌜ record { r = now (r .exit); p = p } ≡ return-restore (now (r .entry)) (view-of (now (mem .entry))) op f ⌝ }
+pub fn return_restore(r: &mut [u32; SLOTS], mem: &Parts, op: u32, f: Flow) -> Plan
+    ensures { λ p. ⌜ record { r = now (r .exit); p = p } ≡ return-restore (now (r .entry)) (view-of (map now (now (mem .entry)))) op f ⌝ }
 {
     let c = operand::source(
         r,
@@ -153,8 +155,8 @@ pub fn return_restore(r: &mut [u32; SLOTS], mem: &[u8], op: u32, f: Flow) -> Pla
 }
 
 // RTS.
-pub fn return_subroutine(r: &mut [u32; SLOTS], mem: &[u8], op: u32, f: Flow) -> Plan
-    ensures { λ p. ⌜ record { r = now (r .exit); p = p } ≡ return-subroutine (now (r .entry)) (view-of (now (mem .entry))) op f ⌝ }
+pub fn return_subroutine(r: &mut [u32; SLOTS], mem: &Parts, op: u32, f: Flow) -> Plan
+    ensures { λ p. ⌜ record { r = now (r .exit); p = p } ≡ return-subroutine (now (r .entry)) (view-of (map now (now (mem .entry)))) op f ⌝ }
 {
     let t = operand::source(
         r,

@@ -2,6 +2,7 @@
 // Means: specs/Dispatch.antt, specs/Lines.antt of clocks.  Laws: proofs/ClockLaws.antt, proofs/DispatchLaws.antt.
 // Uses: codes, bits, bus, plan, timing, movement, movem, integer, bitwise, control, system.  Source: [003 3], [003 D], [K2].
 ghost use mathlib.Core.Path.{_≡_};
+ghost use mathlib.Core.List.{map};
 ghost use Prim.Native.Nat.{_+_, _<_};
 ghost use Rattle.bus.specs.Bus.{view-of};
 ghost use Rattle.decode.specs.Kinds.{Illegal, Move, AddToRegister, AndToRegister, Bcc, AndIToCcr};
@@ -9,6 +10,7 @@ ghost use Rattle.clocks.specs.Lines.{clocks};
 ghost use Rattle.execute.specs.Dispatch.{refused-plan, refused-kind, movement-kind, integer-kind, logical-kind, control-kind, system-kind};
 use crate::Timed;
 use bus::Flow;
+use bus::Parts;
 use codes::SLOTS;
 use plan::Plan;
 
@@ -27,10 +29,10 @@ pub fn refused(vec: u32, f: Flow) -> Plan
 }
 
 // Illegal, and words that begin 1010 and 1111.
-pub fn refused_kind(j: u32, r: &[u32; SLOTS], mem: &[u8], op: u32, f: Flow) -> Timed
+pub fn refused_kind(j: u32, r: &[u32; SLOTS], mem: &Parts, op: u32, f: Flow) -> Timed
     requires { ⌜ j < 3 ⌝ }
-    ensures { λ t. ⌜ record { r = now (r .entry); p = t .plan } ≡ refused-kind j (now (r .entry)) (view-of (now (mem .entry))) op f ⌝ }
-    ensures { λ t. ⌜ t .clocks ≡ clocks (Illegal + j) (now (r .entry)) (view-of (now (mem .entry))) op f ⌝ }
+    ensures { λ t. ⌜ record { r = now (r .entry); p = t .plan } ≡ refused-kind j (now (r .entry)) (view-of (map now (now (mem .entry)))) op f ⌝ }
+    ensures { λ t. ⌜ t .clocks ≡ clocks (Illegal + j) (now (r .entry)) (view-of (map now (now (mem .entry)))) op f ⌝ }
 {
     match j {
         0 => taking(0, refused(codes::ILLEGAL_INSTRUCTION, f)),
@@ -40,10 +42,10 @@ pub fn refused_kind(j: u32, r: &[u32; SLOTS], mem: &[u8], op: u32, f: Flow) -> T
 }
 
 // Data movement, from MOVE on.
-pub fn movement_kind(j: u32, r: &mut [u32; SLOTS], mem: &[u8], op: u32, f: Flow) -> Timed
+pub fn movement_kind(j: u32, r: &mut [u32; SLOTS], mem: &Parts, op: u32, f: Flow) -> Timed
     requires { ⌜ j < 15 ⌝ }
-    ensures { λ t. ⌜ record { r = now (r .exit); p = t .plan } ≡ movement-kind j (now (r .entry)) (view-of (now (mem .entry))) op f ⌝ }
-    ensures { λ t. ⌜ t .clocks ≡ clocks (Move + j) (now (r .entry)) (view-of (now (mem .entry))) op f ⌝ }
+    ensures { λ t. ⌜ record { r = now (r .exit); p = t .plan } ≡ movement-kind j (now (r .entry)) (view-of (map now (now (mem .entry)))) op f ⌝ }
+    ensures { λ t. ⌜ t .clocks ≡ clocks (Move + j) (now (r .entry)) (view-of (map now (now (mem .entry)))) op f ⌝ }
 {
     match j {
         0 => taking(timing::moved(op), movement::move_data(r, mem, op, f)),
@@ -83,10 +85,10 @@ pub fn movement_kind(j: u32, r: &mut [u32; SLOTS], mem: &[u8], op: u32, f: Flow)
 }
 
 // Integer arithmetic, from ADD_TO_REGISTER on.
-pub fn integer_kind(j: u32, r: &mut [u32; SLOTS], mem: &[u8], op: u32, f: Flow) -> Timed
+pub fn integer_kind(j: u32, r: &mut [u32; SLOTS], mem: &Parts, op: u32, f: Flow) -> Timed
     requires { ⌜ j < 28 ⌝ }
-    ensures { λ t. ⌜ record { r = now (r .exit); p = t .plan } ≡ integer-kind j (now (r .entry)) (view-of (now (mem .entry))) op f ⌝ }
-    ensures { λ t. ⌜ t .clocks ≡ clocks (AddToRegister + j) (now (r .entry)) (view-of (now (mem .entry))) op f ⌝ }
+    ensures { λ t. ⌜ record { r = now (r .exit); p = t .plan } ≡ integer-kind j (now (r .entry)) (view-of (map now (now (mem .entry)))) op f ⌝ }
+    ensures { λ t. ⌜ t .clocks ≡ clocks (AddToRegister + j) (now (r .entry)) (view-of (map now (now (mem .entry)))) op f ⌝ }
 {
     match j {
         0 => taking(
@@ -193,10 +195,10 @@ pub fn integer_kind(j: u32, r: &mut [u32; SLOTS], mem: &[u8], op: u32, f: Flow) 
 }
 
 // Kinds 46 to 61: logical, shift and rotate, bit, decimal.
-pub fn logical_kind(j: u32, r: &mut [u32; SLOTS], mem: &[u8], op: u32, f: Flow) -> Timed
+pub fn logical_kind(j: u32, r: &mut [u32; SLOTS], mem: &Parts, op: u32, f: Flow) -> Timed
     requires { ⌜ j < 16 ⌝ }
-    ensures { λ t. ⌜ record { r = now (r .exit); p = t .plan } ≡ logical-kind j (now (r .entry)) (view-of (now (mem .entry))) op f ⌝ }
-    ensures { λ t. ⌜ t .clocks ≡ clocks (AndToRegister + j) (now (r .entry)) (view-of (now (mem .entry))) op f ⌝ }
+    ensures { λ t. ⌜ record { r = now (r .exit); p = t .plan } ≡ logical-kind j (now (r .entry)) (view-of (map now (now (mem .entry)))) op f ⌝ }
+    ensures { λ t. ⌜ t .clocks ≡ clocks (AndToRegister + j) (now (r .entry)) (view-of (map now (now (mem .entry)))) op f ⌝ }
 {
     match j {
         0 => taking(
@@ -267,10 +269,10 @@ pub fn logical_kind(j: u32, r: &mut [u32; SLOTS], mem: &[u8], op: u32, f: Flow) 
 }
 
 // Program control, from BCC on.
-pub fn control_kind(j: u32, r: &mut [u32; SLOTS], mem: &[u8], op: u32, f: Flow) -> Timed
+pub fn control_kind(j: u32, r: &mut [u32; SLOTS], mem: &Parts, op: u32, f: Flow) -> Timed
     requires { ⌜ j < 10 ⌝ }
-    ensures { λ t. ⌜ record { r = now (r .exit); p = t .plan } ≡ control-kind j (now (r .entry)) (view-of (now (mem .entry))) op f ⌝ }
-    ensures { λ t. ⌜ t .clocks ≡ clocks (Bcc + j) (now (r .entry)) (view-of (now (mem .entry))) op f ⌝ }
+    ensures { λ t. ⌜ record { r = now (r .exit); p = t .plan } ≡ control-kind j (now (r .entry)) (view-of (map now (now (mem .entry)))) op f ⌝ }
+    ensures { λ t. ⌜ t .clocks ≡ clocks (Bcc + j) (now (r .entry)) (view-of (map now (now (mem .entry)))) op f ⌝ }
 {
     match j {
         0 => taking(
@@ -302,9 +304,9 @@ pub fn control_kind(j: u32, r: &mut [u32; SLOTS], mem: &[u8], op: u32, f: Flow) 
 }
 
 // System control, from AND_I_TO_CCR on.
-pub fn system_kind(j: u32, r: &mut [u32; SLOTS], mem: &[u8], op: u32, f: Flow) -> Timed
-    ensures { λ t. ⌜ record { r = now (r .exit); p = t .plan } ≡ system-kind j (now (r .entry)) (view-of (now (mem .entry))) op f ⌝ }
-    ensures { λ t. ⌜ t .clocks ≡ clocks (AndIToCcr + j) (now (r .entry)) (view-of (now (mem .entry))) op f ⌝ }
+pub fn system_kind(j: u32, r: &mut [u32; SLOTS], mem: &Parts, op: u32, f: Flow) -> Timed
+    ensures { λ t. ⌜ record { r = now (r .exit); p = t .plan } ≡ system-kind j (now (r .entry)) (view-of (map now (now (mem .entry)))) op f ⌝ }
+    ensures { λ t. ⌜ t .clocks ≡ clocks (AndIToCcr + j) (now (r .entry)) (view-of (map now (now (mem .entry)))) op f ⌝ }
 {
     match j {
         0 => taking(20, system::immediate_to_ccr(codes::AND, mem, f)),

@@ -2,12 +2,14 @@
 // Means: specs/Dispatch.antt.  Laws: proofs/DispatchLaws.antt, proofs/ClockLaws.antt.
 // Uses: codes, bus, operand, plan, timing, decode, movement, control.  Source: [01 step 2], [01 step 4], [003 4.4.7], [K2].
 ghost use mathlib.Core.Path.{_≡_};
+ghost use mathlib.Core.List.{map};
 ghost use Prim.Native.Nat.{_%_, _/_, _<_, _≤_};
 ghost use lib.ListN.{length};
 ghost use Rattle.bus.specs.Bus.{view-of};
 ghost use Rattle.execute.specs.Dispatch.{dispatch, as-user, execute, user-clocks, own-clocks, after-branch};
 ghost use Rattle.clocks.specs.Lines.{clocks};
 use bus::Flow;
+use bus::Parts;
 use codes::SLOTS;
 use decode::kinds;
 use plan::Plan;
@@ -21,9 +23,9 @@ pub struct Timed {
 }
 
 // The function of a kind, and its clocks.
-fn dispatch(k: u32, r: &mut [u32; SLOTS], mem: &[u8], op: u32, f: Flow) -> Timed
-    ensures { λ t. ⌜ record { r = now (r .exit); p = t .plan } ≡ dispatch k (now (r .entry)) (view-of (now (mem .entry))) op f ⌝ }
-    ensures { λ t. ⌜ t .clocks ≡ clocks k (now (r .entry)) (view-of (now (mem .entry))) op f ⌝ }
+fn dispatch(k: u32, r: &mut [u32; SLOTS], mem: &Parts, op: u32, f: Flow) -> Timed
+    ensures { λ t. ⌜ record { r = now (r .exit); p = t .plan } ≡ dispatch k (now (r .entry)) (view-of (map now (now (mem .entry)))) op f ⌝ }
+    ensures { λ t. ⌜ t .clocks ≡ clocks k (now (r .entry)) (view-of (map now (now (mem .entry)))) op f ⌝ }
 {
     let first = k < kinds::MOVE;
     if first {
@@ -49,9 +51,9 @@ fn dispatch(k: u32, r: &mut [u32; SLOTS], mem: &[u8], op: u32, f: Flow) -> Timed
 }
 
 // In user state a privileged instruction is refused.
-fn as_user(k: u32, r: &mut [u32; SLOTS], mem: &[u8], op: u32, f: Flow) -> Timed
-    ensures { λ t. ⌜ record { r = now (r .exit); p = t .plan } ≡ as-user k (now (r .entry)) (view-of (now (mem .entry))) op f ⌝ }
-    ensures { λ t. ⌜ t .clocks ≡ user-clocks k (now (r .entry)) (view-of (now (mem .entry))) op f ⌝ }
+fn as_user(k: u32, r: &mut [u32; SLOTS], mem: &Parts, op: u32, f: Flow) -> Timed
+    ensures { λ t. ⌜ record { r = now (r .exit); p = t .plan } ≡ as-user k (now (r .entry)) (view-of (map now (now (mem .entry)))) op f ⌝ }
+    ensures { λ t. ⌜ t .clocks ≡ user-clocks k (now (r .entry)) (view-of (map now (now (mem .entry)))) op f ⌝ }
 {
     let high = decode::privileged(k);
     if high {
@@ -86,9 +88,9 @@ fn registers_there(r: &[u32]) -> usize
 
 // The operation word alone decides illegal and privileged. The commonest kinds, none of them privileged, are asked first, for speed. Where a
 // branch leaves PC at another place than the next instruction's it was taken: its condition is asked once more only where it may not be.
-pub fn execute(r: &mut [u32; SLOTS], mem: &[u8], op: u32, f: Flow) -> Timed
-    ensures { λ t. ⌜ record { r = now (r .exit); p = t .plan } ≡ execute (now (r .entry)) (view-of (now (mem .entry))) op f ⌝ }
-    ensures { λ t. ⌜ t .clocks ≡ own-clocks (now (r .entry)) (view-of (now (mem .entry))) op f ⌝ }
+pub fn execute(r: &mut [u32; SLOTS], mem: &Parts, op: u32, f: Flow) -> Timed
+    ensures { λ t. ⌜ record { r = now (r .exit); p = t .plan } ≡ execute (now (r .entry)) (view-of (map now (now (mem .entry)))) op f ⌝ }
+    ensures { λ t. ⌜ t .clocks ≡ own-clocks (now (r .entry)) (view-of (map now (now (mem .entry)))) op f ⌝ }
 {
     let k = decode::kind_of(op);
     let branches = (k == kinds::BCC) | (k == kinds::BRA);

@@ -2,6 +2,7 @@
 // Means: specs/Integer.antt.  Laws: proofs/IntegerLaws.antt.  Source: [003 3.3], [003 3.4], [003 3.7], [003 B], [01 Operands], [01 Arithmetic].
 // Uses: codes, bits, flags, alu, decimal, multiply_divide, bus, operand, plan.
 ghost use mathlib.Core.Path.{_≡_};
+ghost use mathlib.Core.List.{map};
 ghost use Rattle.bus.specs.Bus.{view-of};
 ghost use Rattle.integer.specs.Integer.{binary, address-sum, continuing, unary-result, product-by, quotient-by, only-flags, into-register};
 ghost use Rattle.integer.specs.Integer.{onto, alone};
@@ -9,6 +10,7 @@ ghost use Rattle.integer.specs.Integer.{to-register, to-memory, immediat
 ghost use Rattle.integer.specs.Integer.{compare-address};
 ghost use Rattle.integer.specs.Integer.{paired, compare-memory, unary, extend, test, multiply, divide};
 use bus::Flow;
+use bus::Parts;
 use codes::SLOTS;
 use flags::Flagged;
 use multiply_divide::Divided;
@@ -101,8 +103,8 @@ fn into_register(r: &mut [u32; SLOTS], n: u32, z: u32, a: Flagged, f: Flow) -> P
 }
 
 // ADD, SUB, AND, OR, CMP <ea>,Dn.
-pub fn to_register(which: u32, r: &mut [u32; SLOTS], mem: &[u8], op: u32, f: Flow) -> Plan
-    ensures { λ p. ⌜ record { r = now (r .exit); p = p } ≡ to-register which (now (r .entry)) (view-of (now (mem .entry))) op f ⌝ }
+pub fn to_register(which: u32, r: &mut [u32; SLOTS], mem: &Parts, op: u32, f: Flow) -> Plan
+    ensures { λ p. ⌜ record { r = now (r .exit); p = p } ≡ to-register which (now (r .entry)) (view-of (map now (now (mem .entry)))) op f ⌝ }
 {
     let z = op / 64 % 4;
     let n = op / 512 % 8;
@@ -113,8 +115,8 @@ pub fn to_register(which: u32, r: &mut [u32; SLOTS], mem: &[u8], op: u32, f: Flo
 }
 
 // A source b onto the operand of the operation word's mode.
-fn onto(which: u32, b: u32, r: &mut [u32; SLOTS], mem: &[u8], op: u32, f: Flow) -> Plan
-    ensures { λ p. ⌜ record { r = now (r .exit); p = p } ≡ onto which b (now (r .entry)) (view-of (now (mem .entry))) op f ⌝ }
+fn onto(which: u32, b: u32, r: &mut [u32; SLOTS], mem: &Parts, op: u32, f: Flow) -> Plan
+    ensures { λ p. ⌜ record { r = now (r .exit); p = p } ≡ onto which b (now (r .entry)) (view-of (map now (now (mem .entry)))) op f ⌝ }
 {
     let z = op / 64 % 4;
     let d = operand::modify(r, mem, op / 8 % 8, op % 8, z, f);
@@ -124,16 +126,16 @@ fn onto(which: u32, b: u32, r: &mut [u32; SLOTS], mem: &[u8], op: u32, f: Flow) 
 }
 
 // ADD, SUB, AND, OR, EOR Dn,<ea>.
-pub fn to_memory(which: u32, r: &mut [u32; SLOTS], mem: &[u8], op: u32, f: Flow) -> Plan
-    ensures { λ p. ⌜ record { r = now (r .exit); p = p } ≡ to-memory which (now (r .entry)) (view-of (now (mem .entry))) op f ⌝ }
+pub fn to_memory(which: u32, r: &mut [u32; SLOTS], mem: &Parts, op: u32, f: Flow) -> Plan
+    ensures { λ p. ⌜ record { r = now (r .exit); p = p } ≡ to-memory which (now (r .entry)) (view-of (map now (now (mem .entry)))) op f ⌝ }
 {
     let b = operand::get(r, op / 512 % 8);
     onto(which, b, r, mem, op, f)
 }
 
 // ADDI, SUBI, ANDI, ORI, EORI.
-pub fn immediate_to(which: u32, r: &mut [u32; SLOTS], mem: &[u8], op: u32, f: Flow) -> Plan
-    ensures { λ p. ⌜ record { r = now (r .exit); p = p } ≡ immediate-to which (now (r .entry)) (view-of (now (mem .entry))) op f ⌝ }
+pub fn immediate_to(which: u32, r: &mut [u32; SLOTS], mem: &Parts, op: u32, f: Flow) -> Plan
+    ensures { λ p. ⌜ record { r = now (r .exit); p = p } ≡ immediate-to which (now (r .entry)) (view-of (map now (now (mem .entry)))) op f ⌝ }
 {
     let i = operand::immediate(mem, op / 64 % 4, f);
     let g = i.flow;
@@ -141,8 +143,8 @@ pub fn immediate_to(which: u32, r: &mut [u32; SLOTS], mem: &[u8], op: u32, f: Fl
 }
 
 // CMPI.
-pub fn compare_immediate(r: &mut [u32; SLOTS], mem: &[u8], op: u32, f: Flow) -> Plan
-    ensures { λ p. ⌜ record { r = now (r .exit); p = p } ≡ compare-immediate (now (r .entry)) (view-of (now (mem .entry))) op f ⌝ }
+pub fn compare_immediate(r: &mut [u32; SLOTS], mem: &Parts, op: u32, f: Flow) -> Plan
+    ensures { λ p. ⌜ record { r = now (r .exit); p = p } ≡ compare-immediate (now (r .entry)) (view-of (map now (now (mem .entry)))) op f ⌝ }
 {
     let z = op / 64 % 4;
     let i = operand::immediate(mem, z, f);
@@ -153,8 +155,8 @@ pub fn compare_immediate(r: &mut [u32; SLOTS], mem: &[u8], op: u32, f: Flow) -> 
 }
 
 // ADDQ, SUBQ to a place that is no address register.
-pub fn quick_to(which: u32, r: &mut [u32; SLOTS], mem: &[u8], op: u32, f: Flow) -> Plan
-    ensures { λ p. ⌜ record { r = now (r .exit); p = p } ≡ quick-to which (now (r .entry)) (view-of (now (mem .entry))) op f ⌝ }
+pub fn quick_to(which: u32, r: &mut [u32; SLOTS], mem: &Parts, op: u32, f: Flow) -> Plan
+    ensures { λ p. ⌜ record { r = now (r .exit); p = p } ≡ quick-to which (now (r .entry)) (view-of (map now (now (mem .entry)))) op f ⌝ }
 {
     onto(which, plan::quick(op), r, mem, op, f)
 }
@@ -170,8 +172,8 @@ pub fn quick_address(which: u32, r: &mut [u32; SLOTS], op: u32, f: Flow) -> Plan
 }
 
 // ADDA, SUBA: the address register as the source's step left it.
-pub fn to_address(which: u32, r: &mut [u32; SLOTS], mem: &[u8], op: u32, f: Flow) -> Plan
-    ensures { λ p. ⌜ record { r = now (r .exit); p = p } ≡ to-address which (now (r .entry)) (view-of (now (mem .entry))) op f ⌝ }
+pub fn to_address(which: u32, r: &mut [u32; SLOTS], mem: &Parts, op: u32, f: Flow) -> Plan
+    ensures { λ p. ⌜ record { r = now (r .exit); p = p } ≡ to-address which (now (r .entry)) (view-of (map now (now (mem .entry)))) op f ⌝ }
 {
     let z = 1 + op / 256 % 2;
     let n = codes::A0 + op / 512 % 8;
@@ -184,8 +186,8 @@ pub fn to_address(which: u32, r: &mut [u32; SLOTS], mem: &[u8], op: u32, f: Flow
 }
 
 // CMPA: 32 bits, the address register as the source's step left it.
-pub fn compare_address(r: &mut [u32; SLOTS], mem: &[u8], op: u32, f: Flow) -> Plan
-    ensures { λ p. ⌜ record { r = now (r .exit); p = p } ≡ compare-address (now (r .entry)) (view-of (now (mem .entry))) op f ⌝ }
+pub fn compare_address(r: &mut [u32; SLOTS], mem: &Parts, op: u32, f: Flow) -> Plan
+    ensures { λ p. ⌜ record { r = now (r .exit); p = p } ≡ compare-address (now (r .entry)) (view-of (map now (now (mem .entry)))) op f ⌝ }
 {
     let z = 1 + op / 256 % 2;
     let n = codes::A0 + op / 512 % 8;
@@ -196,8 +198,8 @@ pub fn compare_address(r: &mut [u32; SLOTS], mem: &[u8], op: u32, f: Flow) -> Pl
 }
 
 // ADDX, SUBX, ABCD, SBCD: Dy,Dx or -(Ay),-(Ax).
-pub fn paired(which: u32, r: &mut [u32; SLOTS], mem: &[u8], op: u32, f: Flow) -> Plan
-    ensures { λ p. ⌜ record { r = now (r .exit); p = p } ≡ paired which (now (r .entry)) (view-of (now (mem .entry))) op f ⌝ }
+pub fn paired(which: u32, r: &mut [u32; SLOTS], mem: &Parts, op: u32, f: Flow) -> Plan
+    ensures { λ p. ⌜ record { r = now (r .exit); p = p } ≡ paired which (now (r .entry)) (view-of (map now (now (mem .entry)))) op f ⌝ }
 {
     let z = op / 64 % 4;
     let mode = op / 8 % 2 * codes::PREDECREMENT;
@@ -210,8 +212,8 @@ pub fn paired(which: u32, r: &mut [u32; SLOTS], mem: &[u8], op: u32, f: Flow) ->
 }
 
 // CMPM (Ay)+,(Ax)+.
-pub fn compare_memory(r: &mut [u32; SLOTS], mem: &[u8], op: u32, f: Flow) -> Plan
-    ensures { λ p. ⌜ record { r = now (r .exit); p = p } ≡ compare-memory (now (r .entry)) (view-of (now (mem .entry))) op f ⌝ }
+pub fn compare_memory(r: &mut [u32; SLOTS], mem: &Parts, op: u32, f: Flow) -> Plan
+    ensures { λ p. ⌜ record { r = now (r .exit); p = p } ≡ compare-memory (now (r .entry)) (view-of (map now (now (mem .entry)))) op f ⌝ }
 {
     let z = op / 64 % 4;
     let s = operand::source(r, mem, codes::POSTINCREMENT, op % 8, z, f);
@@ -222,8 +224,8 @@ pub fn compare_memory(r: &mut [u32; SLOTS], mem: &[u8], op: u32, f: Flow) -> Pla
 }
 
 // The operand of the operation word's mode, alone.
-fn alone(which: u32, z: u32, r: &mut [u32; SLOTS], mem: &[u8], op: u32, f: Flow) -> Plan
-    ensures { λ p. ⌜ record { r = now (r .exit); p = p } ≡ alone which z (now (r .entry)) (view-of (now (mem .entry))) op f ⌝ }
+fn alone(which: u32, z: u32, r: &mut [u32; SLOTS], mem: &Parts, op: u32, f: Flow) -> Plan
+    ensures { λ p. ⌜ record { r = now (r .exit); p = p } ≡ alone which z (now (r .entry)) (view-of (map now (now (mem .entry)))) op f ⌝ }
 {
     let d = operand::modify(r, mem, op / 8 % 8, op % 8, z, f);
     let q = d.q;
@@ -232,22 +234,22 @@ fn alone(which: u32, z: u32, r: &mut [u32; SLOTS], mem: &[u8], op: u32, f: Flow)
 }
 
 // NEG, NEGX, NOT, CLR, NBCD, TAS. TAS, a byte, has 3 for its size.
-pub fn unary(which: u32, r: &mut [u32; SLOTS], mem: &[u8], op: u32, f: Flow) -> Plan
-    ensures { λ p. ⌜ record { r = now (r .exit); p = p } ≡ unary which (now (r .entry)) (view-of (now (mem .entry))) op f ⌝ }
+pub fn unary(which: u32, r: &mut [u32; SLOTS], mem: &Parts, op: u32, f: Flow) -> Plan
+    ensures { λ p. ⌜ record { r = now (r .exit); p = p } ≡ unary which (now (r .entry)) (view-of (map now (now (mem .entry)))) op f ⌝ }
 {
     alone(which, op / 64 % 4 % 3, r, mem, op, f)
 }
 
 // EXT: the operation word's mode is 0, a data register.
-pub fn extend(r: &mut [u32; SLOTS], mem: &[u8], op: u32, f: Flow) -> Plan
-    ensures { λ p. ⌜ record { r = now (r .exit); p = p } ≡ extend (now (r .entry)) (view-of (now (mem .entry))) op f ⌝ }
+pub fn extend(r: &mut [u32; SLOTS], mem: &Parts, op: u32, f: Flow) -> Plan
+    ensures { λ p. ⌜ record { r = now (r .exit); p = p } ≡ extend (now (r .entry)) (view-of (map now (now (mem .entry)))) op f ⌝ }
 {
     alone(codes::EXTEND, 1 + op / 64 % 2, r, mem, op, f)
 }
 
 // TST.
-pub fn test(r: &mut [u32; SLOTS], mem: &[u8], op: u32, f: Flow) -> Plan
-    ensures { λ p. ⌜ record { r = now (r .exit); p = p } ≡ test (now (r .entry)) (view-of (now (mem .entry))) op f ⌝ }
+pub fn test(r: &mut [u32; SLOTS], mem: &Parts, op: u32, f: Flow) -> Plan
+    ensures { λ p. ⌜ record { r = now (r .exit); p = p } ≡ test (now (r .entry)) (view-of (map now (now (mem .entry)))) op f ⌝ }
 {
     let z = op / 64 % 4;
     let w = operand::source(r, mem, op / 8 % 8, op % 8, z, f);
@@ -256,8 +258,8 @@ pub fn test(r: &mut [u32; SLOTS], mem: &[u8], op: u32, f: Flow) -> Plan
 }
 
 // MULS, MULU <ea>,Dn.
-pub fn multiply(which: u32, r: &mut [u32; SLOTS], mem: &[u8], op: u32, f: Flow) -> Plan
-    ensures { λ p. ⌜ record { r = now (r .exit); p = p } ≡ multiply which (now (r .entry)) (view-of (now (mem .entry))) op f ⌝ }
+pub fn multiply(which: u32, r: &mut [u32; SLOTS], mem: &Parts, op: u32, f: Flow) -> Plan
+    ensures { λ p. ⌜ record { r = now (r .exit); p = p } ≡ multiply which (now (r .entry)) (view-of (map now (now (mem .entry)))) op f ⌝ }
 {
     let n = op / 512 % 8;
     let w = operand::source(r, mem, op / 8 % 8, op % 8, codes::WORD, f);
@@ -267,8 +269,8 @@ pub fn multiply(which: u32, r: &mut [u32; SLOTS], mem: &[u8], op: u32, f: Flow) 
 }
 
 // DIVS, DIVU: a zero divisor traps, with the flags set and the source's step kept.
-pub fn divide(which: u32, r: &mut [u32; SLOTS], mem: &[u8], op: u32, f: Flow) -> Plan
-    ensures { λ p. ⌜ record { r = now (r .exit); p = p } ≡ divide which (now (r .entry)) (view-of (now (mem .entry))) op f ⌝ }
+pub fn divide(which: u32, r: &mut [u32; SLOTS], mem: &Parts, op: u32, f: Flow) -> Plan
+    ensures { λ p. ⌜ record { r = now (r .exit); p = p } ≡ divide which (now (r .entry)) (view-of (map now (now (mem .entry)))) op f ⌝ }
 {
     let n = op / 512 % 8;
     let w = operand::source(r, mem, op / 8 % 8, op % 8, codes::WORD, f);

@@ -1,6 +1,6 @@
 -- Whole.antt - a block that lies in memory as a whole: what tells it, and how its list is walked from one to the next. No public promise speaks of
 -- it: laws say that room and memory are those of specs/Movem.antt.
--- Laws: proofs/FitsLaws.antt; WholeLaws, ValueLaws of the crate blocks.  Source: [K6], [003 B MOVEM].
+-- Laws: proofs/FitsLaws.antt; WholeLaws, ValueLaws of the crate blocks.  Source: [K6], [K7], [003 B MOVEM].
 use Prim.Native.Nat.{ℕ, _+_, _*_, _%_, _/_, _^_, _<_, _≤_}
 use mathlib.Core.Path.{_≡_}
 use mathlib.Core.Bool.{Bool, _&&_}
@@ -8,7 +8,7 @@ use mathlib.Core.List.{List}
 use lib.ListN.{getD}
 use lib.Dec.{ltb, leb, eqb}
 use lib.Count.{onesIn, trailingZeros}
-use Rattle.codes.specs.Codes.{BlockUp, EveryOther}
+use Rattle.codes.specs.Codes.{Addresses, BlockUp, EveryOther}
 use Rattle.bits.specs.Bits.{pick, iter, plus}
 use Rattle.bus.specs.declared.Flow.{Flow}
 use Rattle.bus.specs.Bus.{pins, put-sized}
@@ -17,12 +17,13 @@ use Rattle.movem.specs.declared.Way.{Way}
 use Rattle.movem.specs.declared.Spot.{Spot}
 use Rattle.movem.specs.Movem.{listed, first-spot, next-spot, Walk, put-way}
 
--- whether a block of words lies as a whole in a memory of that length, by its start and its count alone. block-room-when-fits of
--- proofs/FitsLaws.antt says that then none of its writes meets a fault  [K6]
-unfoldable pub fits : ℕ → Plan → Bool
-fits len p =
+-- whether a block of words lies as a whole from one address to below another, by its start and its count alone, and not round the top of
+-- the addresses. block-room-when-fits of proofs/FitsLaws.antt says that then none of its writes meets a fault  [K6] [K7]
+unfoldable pub fits : ℕ → ℕ → Plan → Bool
+fits lo hi p =
     let w = put-way p in
-    ((leb BlockUp (p .write) && ltb (p .write) EveryOther) && eqb (w .start % 2) 0) && leb (pins (w .start) + onesIn 16 (p .value) * w .step) len
+    let end = pins (w .start) + onesIn 16 (p .value) * w .step in
+    ((((leb BlockUp (p .write) && ltb (p .write) EveryOther) && eqb (w .start % 2) 0) && leb lo (pins (w .start))) && leb end hi) && leb end Addresses
 
 -- where a walk stands at the next one of a list that has one  [ours]
 unfoldable pub skipped : Spot → Spot

@@ -2,9 +2,11 @@
 // Means: specs/Movem.antt.  Laws: proofs/MovemLaws.antt; those of the order of the writes stand in proofs/ too.
 // Uses: codes, bits, bus, operand, plan.  Source: [003 B MOVEM], [01 Operands].
 ghost use mathlib.Core.Path.{_≡_};
+ghost use mathlib.Core.List.{map};
 ghost use Rattle.bus.specs.Bus.{view-of};
 ghost use Rattle.movem.specs.Movem.{first-spot, next-spot, load-one, load-list, movem-to-registers, movem-down, movem-to-memory};
 use bus::Flow;
+use bus::Parts;
 use codes::SLOTS;
 use plan::Plan;
 
@@ -60,8 +62,8 @@ pub fn next_spot(w: Way, d: Spot, f: Flow) -> Spot
 }
 
 // Register k is loaded if the list has it; a word is carried on to 32 bits.
-fn load_one(r: &mut [u32; SLOTS], mem: &[u8], k: u32, w: Way, d: Spot) -> Spot
-    ensures { λ e. ⌜ record { held = now (r .exit); spot = e } ≡ load-one (view-of (now (mem .entry))) k w (record { held = now (r .entry); spot = d }) ⌝ }
+fn load_one(r: &mut [u32; SLOTS], mem: &Parts, k: u32, w: Way, d: Spot) -> Spot
+    ensures { λ e. ⌜ record { held = now (r .exit); spot = e } ≡ load-one (view-of (map now (now (mem .entry)))) k w (record { held = now (r .entry); spot = d }) ⌝ }
 {
     let f = d.flow;
     let on = d.list % 2 == 1;
@@ -74,8 +76,8 @@ fn load_one(r: &mut [u32; SLOTS], mem: &[u8], k: u32, w: Way, d: Spot) -> Spot
     next_spot(w, d, f)
 }
 
-fn load_list(r: &mut [u32; SLOTS], mem: &[u8], k: u32, w: Way, f: Flow) -> Spot
-    ensures { λ e. ⌜ record { held = now (r .exit); spot = e } ≡ load-list (now (r .entry)) (view-of (now (mem .entry))) k w f ⌝ }
+fn load_list(r: &mut [u32; SLOTS], mem: &Parts, k: u32, w: Way, f: Flow) -> Spot
+    ensures { λ e. ⌜ record { held = now (r .exit); spot = e } ≡ load-list (now (r .entry)) (view-of (map now (now (mem .entry)))) k w f ⌝ }
 {
     let mut d = first_spot(w, f);
     let mut j: u32 = 0;
@@ -87,8 +89,8 @@ fn load_list(r: &mut [u32; SLOTS], mem: &[u8], k: u32, w: Way, f: Flow) -> Spot
 }
 
 // The address is formed once, before any load. (An)+, the only mode here that steps, leaves An at the final address.
-pub fn movem_to_registers(r: &mut [u32; SLOTS], mem: &[u8], op: u32, f: Flow) -> Plan
-    ensures { λ p. ⌜ record { r = now (r .exit); p = p } ≡ movem-to-registers (now (r .entry)) (view-of (now (mem .entry))) op f ⌝ }
+pub fn movem_to_registers(r: &mut [u32; SLOTS], mem: &Parts, op: u32, f: Flow) -> Plan
+    ensures { λ p. ⌜ record { r = now (r .exit); p = p } ≡ movem-to-registers (now (r .entry)) (view-of (map now (now (mem .entry)))) op f ⌝ }
 {
     let z = 1 + op / 64 % 2;
     let l = bus::next_word(mem, f);
@@ -123,8 +125,8 @@ fn movem_down(r: &mut [u32; SLOTS], list: u32, op: u32, f: Flow) -> Plan
     )
 }
 
-pub fn movem_to_memory(r: &mut [u32; SLOTS], mem: &[u8], op: u32, f: Flow) -> Plan
-    ensures { λ p. ⌜ record { r = now (r .exit); p = p } ≡ movem-to-memory (now (r .entry)) (view-of (now (mem .entry))) op f ⌝ }
+pub fn movem_to_memory(r: &mut [u32; SLOTS], mem: &Parts, op: u32, f: Flow) -> Plan
+    ensures { λ p. ⌜ record { r = now (r .exit); p = p } ≡ movem-to-memory (now (r .entry)) (view-of (map now (now (mem .entry)))) op f ⌝ }
 {
     let l = bus::next_word(mem, f);
     let g = l.flow;

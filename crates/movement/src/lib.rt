@@ -2,6 +2,7 @@
 // Means: specs/Movement.antt.  Laws: proofs/MovementLaws.antt.
 // Uses: codes, bits, bus, operand, flags, alu, plan.  Source: [003 3.2], [003 B], [01 step 6], [01 Operands].
 ghost use mathlib.Core.Path.{_≡_};
+ghost use mathlib.Core.List.{map};
 ghost use Prim.Native.Nat.{_+_, _*_, _%_, _/_, _<_};
 ghost use Rattle.bits.specs.Bits.{minus};
 ghost use Rattle.bus.specs.Bus.{view-of};
@@ -11,6 +12,7 @@ ghost use Rattle.movement.specs.Movement.{exchange-data, exchange-addres
 ghost use Rattle.movement.specs.Movement.{movep-to-register, movep-to-memory};
 use bus::Fetched;
 use bus::Flow;
+use bus::Parts;
 use codes::SLOTS;
 use operand::Both;
 use operand::Operand;
@@ -34,8 +36,8 @@ fn move_size(op: u32) -> u32
 // The source's value, and the destination's place with its register stepped. All extension words come before the source is read, and
 // the source's step before the destination's address. The source is read before the destination's step: MOVE.L A0,-(A0) stores the
 // first value.
-fn move_operands(r: &mut [u32; SLOTS], mem: &[u8], op: u32, z: u32, f: Flow) -> Both
-    ensures { λ b. ⌜ record { r = now (r .exit); b = b } ≡ move-operands (now (r .entry)) (view-of (now (mem .entry))) op z f ⌝ }
+fn move_operands(r: &mut [u32; SLOTS], mem: &Parts, op: u32, z: u32, f: Flow) -> Both
+    ensures { λ b. ⌜ record { r = now (r .exit); b = b } ≡ move-operands (now (r .entry)) (view-of (map now (now (mem .entry)))) op z f ⌝ }
 {
     let s = operand::target(r, mem, op / 8 % 8, op % 8, z, f);
     let sf = s.flow;
@@ -58,8 +60,8 @@ fn move_operands(r: &mut [u32; SLOTS], mem: &[u8], op: u32, z: u32, f: Flow) -> 
     }
 }
 
-pub fn move_data(r: &mut [u32; SLOTS], mem: &[u8], op: u32, f: Flow) -> Plan
-    ensures { λ p. ⌜ record { r = now (r .exit); p = p } ≡ move-data (now (r .entry)) (view-of (now (mem .entry))) op f ⌝ }
+pub fn move_data(r: &mut [u32; SLOTS], mem: &Parts, op: u32, f: Flow) -> Plan
+    ensures { λ p. ⌜ record { r = now (r .exit); p = p } ≡ move-data (now (r .entry)) (view-of (map now (now (mem .entry)))) op f ⌝ }
 {
     let z = move_size(op);
     let b = move_operands(r, mem, op, z, f);
@@ -67,8 +69,8 @@ pub fn move_data(r: &mut [u32; SLOTS], mem: &[u8], op: u32, f: Flow) -> Plan
     plan::finish(r, q, z, alu::moved(b.value, f.sr, z))
 }
 
-pub fn move_address(r: &mut [u32; SLOTS], mem: &[u8], op: u32, f: Flow) -> Plan
-    ensures { λ p. ⌜ record { r = now (r .exit); p = p } ≡ move-address (now (r .entry)) (view-of (now (mem .entry))) op f ⌝ }
+pub fn move_address(r: &mut [u32; SLOTS], mem: &Parts, op: u32, f: Flow) -> Plan
+    ensures { λ p. ⌜ record { r = now (r .exit); p = p } ≡ move-address (now (r .entry)) (view-of (map now (now (mem .entry)))) op f ⌝ }
 {
     let z = move_size(op);
     let w = operand::source(r, mem, op / 8 % 8, op % 8, z, f);
@@ -77,16 +79,16 @@ pub fn move_address(r: &mut [u32; SLOTS], mem: &[u8], op: u32, f: Flow) -> Plan
     plan::nothing(g)
 }
 
-pub fn move_quick(r: &mut [u32; SLOTS], mem: &[u8], op: u32, f: Flow) -> Plan
-    ensures { λ p. ⌜ record { r = now (r .exit); p = p } ≡ move-quick (now (r .entry)) (view-of (now (mem .entry))) op f ⌝ }
+pub fn move_quick(r: &mut [u32; SLOTS], mem: &Parts, op: u32, f: Flow) -> Plan
+    ensures { λ p. ⌜ record { r = now (r .exit); p = p } ≡ move-quick (now (r .entry)) (view-of (map now (now (mem .entry)))) op f ⌝ }
 {
     let a = alu::moved(bits::sign_byte(op), f.sr, codes::LONG);
     operand::put(r, op / 512 % 8, a.value);
     plan::nothing(plan::flagged(f, a.ccr))
 }
 
-pub fn load_address(r: &mut [u32; SLOTS], mem: &[u8], op: u32, f: Flow) -> Plan
-    ensures { λ p. ⌜ record { r = now (r .exit); p = p } ≡ load-address (now (r .entry)) (view-of (now (mem .entry))) op f ⌝ }
+pub fn load_address(r: &mut [u32; SLOTS], mem: &Parts, op: u32, f: Flow) -> Plan
+    ensures { λ p. ⌜ record { r = now (r .exit); p = p } ≡ load-address (now (r .entry)) (view-of (map now (now (mem .entry)))) op f ⌝ }
 {
     let q = operand::locate(r, mem, op / 8 % 8, op % 8, codes::LONG, f);
     let g = q.flow;
@@ -95,8 +97,8 @@ pub fn load_address(r: &mut [u32; SLOTS], mem: &[u8], op: u32, f: Flow) -> Plan
 }
 
 // The address is formed before A7 falls.
-pub fn push_address(r: &mut [u32; SLOTS], mem: &[u8], op: u32, f: Flow) -> Plan
-    ensures { λ p. ⌜ record { r = now (r .exit); p = p } ≡ push-address (now (r .entry)) (view-of (now (mem .entry))) op f ⌝ }
+pub fn push_address(r: &mut [u32; SLOTS], mem: &Parts, op: u32, f: Flow) -> Plan
+    ensures { λ p. ⌜ record { r = now (r .exit); p = p } ≡ push-address (now (r .entry)) (view-of (map now (now (mem .entry)))) op f ⌝ }
 {
     let q = operand::locate(r, mem, op / 8 % 8, op % 8, codes::LONG, f);
     let g = q.flow;
@@ -114,26 +116,26 @@ fn exchange(r: &mut [u32; SLOTS], i: u32, j: u32, f: Flow) -> Plan
     plan::nothing(f)
 }
 
-pub fn exchange_data(r: &mut [u32; SLOTS], mem: &[u8], op: u32, f: Flow) -> Plan
-    ensures { λ p. ⌜ record { r = now (r .exit); p = p } ≡ exchange-data (now (r .entry)) (view-of (now (mem .entry))) op f ⌝ }
+pub fn exchange_data(r: &mut [u32; SLOTS], mem: &Parts, op: u32, f: Flow) -> Plan
+    ensures { λ p. ⌜ record { r = now (r .exit); p = p } ≡ exchange-data (now (r .entry)) (view-of (map now (now (mem .entry)))) op f ⌝ }
 {
     exchange(r, op / 512 % 8, op % 8, f)
 }
 
-pub fn exchange_address(r: &mut [u32; SLOTS], mem: &[u8], op: u32, f: Flow) -> Plan
-    ensures { λ p. ⌜ record { r = now (r .exit); p = p } ≡ exchange-address (now (r .entry)) (view-of (now (mem .entry))) op f ⌝ }
+pub fn exchange_address(r: &mut [u32; SLOTS], mem: &Parts, op: u32, f: Flow) -> Plan
+    ensures { λ p. ⌜ record { r = now (r .exit); p = p } ≡ exchange-address (now (r .entry)) (view-of (map now (now (mem .entry)))) op f ⌝ }
 {
     exchange(r, codes::A0 + op / 512 % 8, codes::A0 + op % 8, f)
 }
 
-pub fn exchange_both(r: &mut [u32; SLOTS], mem: &[u8], op: u32, f: Flow) -> Plan
-    ensures { λ p. ⌜ record { r = now (r .exit); p = p } ≡ exchange-both (now (r .entry)) (view-of (now (mem .entry))) op f ⌝ }
+pub fn exchange_both(r: &mut [u32; SLOTS], mem: &Parts, op: u32, f: Flow) -> Plan
+    ensures { λ p. ⌜ record { r = now (r .exit); p = p } ≡ exchange-both (now (r .entry)) (view-of (map now (now (mem .entry)))) op f ⌝ }
 {
     exchange(r, op / 512 % 8, codes::A0 + op % 8, f)
 }
 
-pub fn swap(r: &mut [u32; SLOTS], mem: &[u8], op: u32, f: Flow) -> Plan
-    ensures { λ p. ⌜ record { r = now (r .exit); p = p } ≡ swap (now (r .entry)) (view-of (now (mem .entry))) op f ⌝ }
+pub fn swap(r: &mut [u32; SLOTS], mem: &Parts, op: u32, f: Flow) -> Plan
+    ensures { λ p. ⌜ record { r = now (r .exit); p = p } ≡ swap (now (r .entry)) (view-of (map now (now (mem .entry)))) op f ⌝ }
 {
     let a = alu::swapped(operand::get(r, op % 8), f.sr);
     operand::put(r, op % 8, a.value);
@@ -151,8 +153,8 @@ fn lowered(r: &mut [u32; SLOTS]) -> u32
 }
 
 // What is stored is An after A7 fell: LINK A7 stores A7 already lowered.
-pub fn link(r: &mut [u32; SLOTS], mem: &[u8], op: u32, f: Flow) -> Plan
-    ensures { λ p. ⌜ record { r = now (r .exit); p = p } ≡ link (now (r .entry)) (view-of (now (mem .entry))) op f ⌝ }
+pub fn link(r: &mut [u32; SLOTS], mem: &Parts, op: u32, f: Flow) -> Plan
+    ensures { λ p. ⌜ record { r = now (r .exit); p = p } ≡ link (now (r .entry)) (view-of (map now (now (mem .entry)))) op f ⌝ }
 {
     let w = bus::next_word(mem, f);
     let g = w.flow;
@@ -168,8 +170,8 @@ pub fn link(r: &mut [u32; SLOTS], mem: &[u8], op: u32, f: Flow) -> Plan
 }
 
 // A7 is put before An: UNLK A7 leaves the long that was read.
-pub fn unlink(r: &mut [u32; SLOTS], mem: &[u8], op: u32, f: Flow) -> Plan
-    ensures { λ p. ⌜ record { r = now (r .exit); p = p } ≡ unlink (now (r .entry)) (view-of (now (mem .entry))) op f ⌝ }
+pub fn unlink(r: &mut [u32; SLOTS], mem: &Parts, op: u32, f: Flow) -> Plan
+    ensures { λ p. ⌜ record { r = now (r .exit); p = p } ≡ unlink (now (r .entry)) (view-of (map now (now (mem .entry)))) op f ⌝ }
 {
     let a = operand::get(r, codes::A0 + op % 8);
     let w = bus::read_long(mem, a, codes::DATA_READ, f);
@@ -180,8 +182,8 @@ pub fn unlink(r: &mut [u32; SLOTS], mem: &[u8], op: u32, f: Flow) -> Plan
 }
 
 // The bytes at a and a + 2 as a word.
-fn every_other_word(mem: &[u8], a: u32, f: Flow) -> Fetched
-    ensures { λ w. ⌜ w ≡ every-other-word (view-of (now (mem .entry))) a f ⌝ }
+fn every_other_word(mem: &Parts, a: u32, f: Flow) -> Fetched
+    ensures { λ w. ⌜ w ≡ every-other-word (view-of (map now (now (mem .entry)))) a f ⌝ }
     ensures { λ w. ⌜ w .value < 65536 ⌝ }
 {
     let h = bus::read_byte(mem, a, codes::DATA_READ, f);
@@ -195,8 +197,8 @@ fn every_other_word(mem: &[u8], a: u32, f: Flow) -> Fetched
 }
 
 // A word or, if z is 2, a long of bytes that stand at every other address from a on.
-fn every_other(mem: &[u8], a: u32, z: u32, f: Flow) -> Fetched
-    ensures { λ w. ⌜ w ≡ every-other (view-of (now (mem .entry))) a z f ⌝ }
+fn every_other(mem: &Parts, a: u32, z: u32, f: Flow) -> Fetched
+    ensures { λ w. ⌜ w ≡ every-other (view-of (map now (now (mem .entry)))) a z f ⌝ }
 {
     let h = every_other_word(mem, a, f);
     let hf = h.flow;
@@ -212,8 +214,8 @@ fn every_other(mem: &[u8], a: u32, z: u32, f: Flow) -> Fetched
     h
 }
 
-pub fn movep_to_register(r: &mut [u32; SLOTS], mem: &[u8], op: u32, f: Flow) -> Plan
-    ensures { λ p. ⌜ record { r = now (r .exit); p = p } ≡ movep-to-register (now (r .entry)) (view-of (now (mem .entry))) op f ⌝ }
+pub fn movep_to_register(r: &mut [u32; SLOTS], mem: &Parts, op: u32, f: Flow) -> Plan
+    ensures { λ p. ⌜ record { r = now (r .exit); p = p } ≡ movep-to-register (now (r .entry)) (view-of (map now (now (mem .entry)))) op f ⌝ }
 {
     let z = 1 + op / 64 % 2;
     let q = operand::locate(r, mem, codes::DISPLACED, op % 8, z, f);
@@ -224,8 +226,8 @@ pub fn movep_to_register(r: &mut [u32; SLOTS], mem: &[u8], op: u32, f: Flow) -> 
     plan::nothing(wf)
 }
 
-pub fn movep_to_memory(r: &mut [u32; SLOTS], mem: &[u8], op: u32, f: Flow) -> Plan
-    ensures { λ p. ⌜ record { r = now (r .exit); p = p } ≡ movep-to-memory (now (r .entry)) (view-of (now (mem .entry))) op f ⌝ }
+pub fn movep_to_memory(r: &mut [u32; SLOTS], mem: &Parts, op: u32, f: Flow) -> Plan
+    ensures { λ p. ⌜ record { r = now (r .exit); p = p } ≡ movep-to-memory (now (r .entry)) (view-of (map now (now (mem .entry)))) op f ⌝ }
 {
     let z = 1 + op / 64 % 2;
     let q = operand::locate(r, mem, codes::DISPLACED, op % 8, z, f);

@@ -2,6 +2,7 @@
 // Means: specs/Operands.antt.  Laws: proofs/OperandLaws.antt.
 // Uses: codes, bits, bus.  Source: [003 2.3], [003 2.7], [003 2.11], [01 Operands], [01 step 7].
 ghost use mathlib.Core.Path.{_≡_};
+ghost use mathlib.Core.List.{map};
 ghost use Prim.Native.Nat.{_+_, _%_, _/_, _<_};
 ghost use Rattle.bus.specs.Bus.{view-of};
 ghost use Rattle.operand.specs.Operands.{get, put, increment, in-register, in-memory, number, indirect, postincrement, predecrement, displaced};
@@ -9,6 +10,7 @@ ghost use Rattle.operand.specs.Operands.{index-value, with-index, indexe
 ghost use Rattle.operand.specs.Operands.{special, locate, load, put-low, operand-with-flow, source, target, modify};
 use bus::Fetched;
 use bus::Flow;
+use bus::Parts;
 use codes::SLOTS;
 
 // Where an operand lies, by its kind: the register `at`, memory at `at` (read by the kind of access), or the number `at` itself. `reg`
@@ -131,8 +133,8 @@ fn predecrement(r: &[u32; SLOTS], n: u32, z: u32, f: Flow) -> Operand
     in_memory(a, codes::DATA_READ, codes::A0 + n % 8, a, f)
 }
 
-fn displaced(r: &[u32; SLOTS], mem: &[u8], n: u32, f: Flow) -> Operand
-    ensures { λ q. ⌜ q ≡ displaced (now (r .entry)) (view-of (now (mem .entry))) n f ⌝ }
+fn displaced(r: &[u32; SLOTS], mem: &Parts, n: u32, f: Flow) -> Operand
+    ensures { λ q. ⌜ q ≡ displaced (now (r .entry)) (view-of (map now (now (mem .entry)))) n f ⌝ }
 {
     let w = bus::next_word(mem, f);
     let g = w.flow;
@@ -160,8 +162,8 @@ fn with_index(r: &[u32; SLOTS], base: u32, w: u32) -> u32
     std::num::wrapping_add_u32(std::num::wrapping_add_u32(base, bits::sign_byte(w)), x)
 }
 
-fn indexed(r: &[u32; SLOTS], mem: &[u8], n: u32, f: Flow) -> Operand
-    ensures { λ q. ⌜ q ≡ indexed (now (r .entry)) (view-of (now (mem .entry))) n f ⌝ }
+fn indexed(r: &[u32; SLOTS], mem: &Parts, n: u32, f: Flow) -> Operand
+    ensures { λ q. ⌜ q ≡ indexed (now (r .entry)) (view-of (map now (now (mem .entry)))) n f ⌝ }
 {
     let w = bus::next_word(mem, f);
     let g = w.flow;
@@ -169,8 +171,8 @@ fn indexed(r: &[u32; SLOTS], mem: &[u8], n: u32, f: Flow) -> Operand
     in_memory(a, codes::DATA_READ, codes::NO_REGISTER, 0, g)
 }
 
-fn absolute_word(mem: &[u8], f: Flow) -> Operand
-    ensures { λ q. ⌜ q ≡ absolute-word (view-of (now (mem .entry))) f ⌝ }
+fn absolute_word(mem: &Parts, f: Flow) -> Operand
+    ensures { λ q. ⌜ q ≡ absolute-word (view-of (map now (now (mem .entry)))) f ⌝ }
 {
     let w = bus::next_word(mem, f);
     let g = w.flow;
@@ -183,16 +185,16 @@ fn absolute_word(mem: &[u8], f: Flow) -> Operand
     )
 }
 
-fn absolute_long(mem: &[u8], f: Flow) -> Operand
-    ensures { λ q. ⌜ q ≡ absolute-long (view-of (now (mem .entry))) f ⌝ }
+fn absolute_long(mem: &Parts, f: Flow) -> Operand
+    ensures { λ q. ⌜ q ≡ absolute-long (view-of (map now (now (mem .entry)))) f ⌝ }
 {
     let w = bus::next_long(mem, f);
     let g = w.flow;
     in_memory(w.value, codes::DATA_READ, codes::NO_REGISTER, 0, g)
 }
 
-fn pc_displaced(mem: &[u8], f: Flow) -> Operand
-    ensures { λ q. ⌜ q ≡ pc-displaced (view-of (now (mem .entry))) f ⌝ }
+fn pc_displaced(mem: &Parts, f: Flow) -> Operand
+    ensures { λ q. ⌜ q ≡ pc-displaced (view-of (map now (now (mem .entry)))) f ⌝ }
 {
     let pc = f.pc;
     let w = bus::next_word(mem, f);
@@ -206,8 +208,8 @@ fn pc_displaced(mem: &[u8], f: Flow) -> Operand
     )
 }
 
-fn pc_indexed(r: &[u32; SLOTS], mem: &[u8], f: Flow) -> Operand
-    ensures { λ q. ⌜ q ≡ pc-indexed (now (r .entry)) (view-of (now (mem .entry))) f ⌝ }
+fn pc_indexed(r: &[u32; SLOTS], mem: &Parts, f: Flow) -> Operand
+    ensures { λ q. ⌜ q ≡ pc-indexed (now (r .entry)) (view-of (map now (now (mem .entry)))) f ⌝ }
 {
     let pc = f.pc;
     let w = bus::next_word(mem, f);
@@ -216,8 +218,8 @@ fn pc_indexed(r: &[u32; SLOTS], mem: &[u8], f: Flow) -> Operand
     in_memory(a, codes::PROGRAM_READ, codes::NO_REGISTER, 0, g)
 }
 
-pub fn immediate(mem: &[u8], z: u32, f: Flow) -> Operand
-    ensures { λ q. ⌜ q ≡ immediate (view-of (now (mem .entry))) z f ⌝ }
+pub fn immediate(mem: &Parts, z: u32, f: Flow) -> Operand
+    ensures { λ q. ⌜ q ≡ immediate (view-of (map now (now (mem .entry)))) z f ⌝ }
 {
     let long = codes::LONG <= z;
     if long {
@@ -231,8 +233,8 @@ pub fn immediate(mem: &[u8], z: u32, f: Flow) -> Operand
 }
 
 // Mode 7, by its register number.
-fn special(r: &[u32; SLOTS], mem: &[u8], n: u32, z: u32, f: Flow) -> Operand
-    ensures { λ q. ⌜ q ≡ special (now (r .entry)) (view-of (now (mem .entry))) n z f ⌝ }
+fn special(r: &[u32; SLOTS], mem: &Parts, n: u32, z: u32, f: Flow) -> Operand
+    ensures { λ q. ⌜ q ≡ special (now (r .entry)) (view-of (map now (now (mem .entry)))) n z f ⌝ }
 {
     match n {
         0 => absolute_word(mem, f),
@@ -244,8 +246,8 @@ fn special(r: &[u32; SLOTS], mem: &[u8], n: u32, z: u32, f: Flow) -> Operand
 }
 
 // The place of the operand of a mode and a register number. No register is stepped yet.
-pub fn locate(r: &[u32; SLOTS], mem: &[u8], mode: u32, n: u32, z: u32, f: Flow) -> Operand
-    ensures { λ q. ⌜ q ≡ locate (now (r .entry)) (view-of (now (mem .entry))) mode n z f ⌝ }
+pub fn locate(r: &[u32; SLOTS], mem: &Parts, mode: u32, n: u32, z: u32, f: Flow) -> Operand
+    ensures { λ q. ⌜ q ≡ locate (now (r .entry)) (view-of (map now (now (mem .entry)))) mode n z f ⌝ }
 {
     match mode {
         0 => in_register(n, f),
@@ -260,8 +262,8 @@ pub fn locate(r: &[u32; SLOTS], mem: &[u8], mode: u32, n: u32, z: u32, f: Flow) 
 }
 
 // What an operand holds, cut to its size.
-pub fn load(r: &[u32; SLOTS], mem: &[u8], p: Operand, z: u32, f: Flow) -> Fetched
-    ensures { λ q. ⌜ q ≡ load (now (r .entry)) (view-of (now (mem .entry))) p z f ⌝ }
+pub fn load(r: &[u32; SLOTS], mem: &Parts, p: Operand, z: u32, f: Flow) -> Fetched
+    ensures { λ q. ⌜ q ≡ load (now (r .entry)) (view-of (map now (now (mem .entry)))) p z f ⌝ }
 {
     let kind = p.kind;
     let at = p.at;
@@ -302,9 +304,9 @@ fn operand_with_flow(q: Operand, f: Flow) -> Operand
 }
 
 // The operand's value, with its register stepped.
-pub fn source(r: &mut [u32; SLOTS], mem: &[u8], mode: u32, n: u32, z: u32, f: Flow) -> Fetched
-    ensures { λ w. ⌜ w ≡ source (now (r .entry)) (view-of (now (mem .entry))) mode n z f .w ⌝ }
-    ensures { λ w. ⌜ now (r .exit) ≡ source (now (r .entry)) (view-of (now (mem .entry))) mode n z f .r ⌝ }
+pub fn source(r: &mut [u32; SLOTS], mem: &Parts, mode: u32, n: u32, z: u32, f: Flow) -> Fetched
+    ensures { λ w. ⌜ w ≡ source (now (r .entry)) (view-of (map now (now (mem .entry)))) mode n z f .w ⌝ }
+    ensures { λ w. ⌜ now (r .exit) ≡ source (now (r .entry)) (view-of (map now (now (mem .entry)))) mode n z f .r ⌝ }
 {
     let p = locate(r, mem, mode, n, z, f);
     let g = p.flow;
@@ -314,9 +316,9 @@ pub fn source(r: &mut [u32; SLOTS], mem: &[u8], mode: u32, n: u32, z: u32, f: Fl
 }
 
 // The operand's place, with its register stepped.
-pub fn target(r: &mut [u32; SLOTS], mem: &[u8], mode: u32, n: u32, z: u32, f: Flow) -> Operand
-    ensures { λ q. ⌜ q ≡ target (now (r .entry)) (view-of (now (mem .entry))) mode n z f .q ⌝ }
-    ensures { λ q. ⌜ now (r .exit) ≡ target (now (r .entry)) (view-of (now (mem .entry))) mode n z f .r ⌝ }
+pub fn target(r: &mut [u32; SLOTS], mem: &Parts, mode: u32, n: u32, z: u32, f: Flow) -> Operand
+    ensures { λ q. ⌜ q ≡ target (now (r .entry)) (view-of (map now (now (mem .entry)))) mode n z f .q ⌝ }
+    ensures { λ q. ⌜ now (r .exit) ≡ target (now (r .entry)) (view-of (map now (now (mem .entry)))) mode n z f .r ⌝ }
 {
     let p = locate(r, mem, mode, n, z, f);
     put(r, p.reg, p.step);
@@ -324,9 +326,9 @@ pub fn target(r: &mut [u32; SLOTS], mem: &[u8], mode: u32, n: u32, z: u32, f: Fl
 }
 
 // The operand's value and place, with its register stepped.
-pub fn modify(r: &mut [u32; SLOTS], mem: &[u8], mode: u32, n: u32, z: u32, f: Flow) -> Both
-    ensures { λ b. ⌜ b ≡ modify (now (r .entry)) (view-of (now (mem .entry))) mode n z f .b ⌝ }
-    ensures { λ b. ⌜ now (r .exit) ≡ modify (now (r .entry)) (view-of (now (mem .entry))) mode n z f .r ⌝ }
+pub fn modify(r: &mut [u32; SLOTS], mem: &Parts, mode: u32, n: u32, z: u32, f: Flow) -> Both
+    ensures { λ b. ⌜ b ≡ modify (now (r .entry)) (view-of (map now (now (mem .entry)))) mode n z f .b ⌝ }
+    ensures { λ b. ⌜ now (r .exit) ≡ modify (now (r .entry)) (view-of (map now (now (mem .entry)))) mode n z f .r ⌝ }
 {
     let p = locate(r, mem, mode, n, z, f);
     let g = p.flow;

@@ -2,12 +2,14 @@
 // Means: specs/System.antt.  Laws: proofs/SystemLaws.antt.
 // Uses: codes, bits, flags, alu, bus, operand, plan.  Source: [003 3.9], [003 B], [01 step 2] to [01 step 7]. Privilege is the caller's.
 ghost use mathlib.Core.Path.{_≡_};
+ghost use mathlib.Core.List.{map};
 ghost use Prim.Native.Nat.{_+_, _%_};
 ghost use Rattle.bus.specs.Bus.{view-of};
 ghost use Rattle.plan.specs.Plans.{nothing};
 ghost use Rattle.system.specs.System.{logic, immediate-to-ccr-plan, immediate-to-sr-plan, move-from-sr, move-to-ccr, move-to-sr};
 ghost use Rattle.system.specs.System.{register-moved, return-exception, stop-plan, trap-plan, trap-overflow-plan, check-bounds};
 use bus::Flow;
+use bus::Parts;
 use codes::SLOTS;
 use flags::Flagged;
 use plan::Plan;
@@ -28,8 +30,8 @@ fn logic(which: u32, a: u32, b: u32) -> u32
 }
 
 // ANDI, ORI, EORI to CCR.
-pub fn immediate_to_ccr(which: u32, mem: &[u8], f: Flow) -> Plan
-    ensures { λ p. ⌜ p ≡ immediate-to-ccr-plan which (view-of (now (mem .entry))) f ⌝ }
+pub fn immediate_to_ccr(which: u32, mem: &Parts, f: Flow) -> Plan
+    ensures { λ p. ⌜ p ≡ immediate-to-ccr-plan which (view-of (map now (now (mem .entry)))) f ⌝ }
 {
     let w = bus::next_word(mem, f);
     let g = w.flow;
@@ -37,8 +39,8 @@ pub fn immediate_to_ccr(which: u32, mem: &[u8], f: Flow) -> Plan
 }
 
 // ANDI, ORI, EORI to SR.
-pub fn immediate_to_sr(which: u32, mem: &[u8], f: Flow) -> Plan
-    ensures { λ p. ⌜ p ≡ immediate-to-sr-plan which (view-of (now (mem .entry))) f ⌝ }
+pub fn immediate_to_sr(which: u32, mem: &Parts, f: Flow) -> Plan
+    ensures { λ p. ⌜ p ≡ immediate-to-sr-plan which (view-of (map now (now (mem .entry)))) f ⌝ }
 {
     let w = bus::next_word(mem, f);
     let g = w.flow;
@@ -46,8 +48,8 @@ pub fn immediate_to_sr(which: u32, mem: &[u8], f: Flow) -> Plan
 }
 
 // MOVE from SR. The flags stay as they are.
-pub fn move_from_sr(r: &mut [u32; SLOTS], mem: &[u8], op: u32, f: Flow) -> Plan
-    ensures { λ p. ⌜ record { r = now (r .exit); p = p } ≡ move-from-sr (now (r .entry)) (view-of (now (mem .entry))) op f ⌝ }
+pub fn move_from_sr(r: &mut [u32; SLOTS], mem: &Parts, op: u32, f: Flow) -> Plan
+    ensures { λ p. ⌜ record { r = now (r .exit); p = p } ≡ move-from-sr (now (r .entry)) (view-of (map now (now (mem .entry)))) op f ⌝ }
 {
     let b = operand::modify(r, mem, op / 8 % 8, op % 8, codes::WORD, f);
     let q = b.q;
@@ -59,8 +61,8 @@ pub fn move_from_sr(r: &mut [u32; SLOTS], mem: &[u8], op: u32, f: Flow) -> Plan
 }
 
 // MOVE to CCR.
-pub fn move_to_ccr(r: &mut [u32; SLOTS], mem: &[u8], op: u32, f: Flow) -> Plan
-    ensures { λ p. ⌜ record { r = now (r .exit); p = p } ≡ move-to-ccr (now (r .entry)) (view-of (now (mem .entry))) op f ⌝ }
+pub fn move_to_ccr(r: &mut [u32; SLOTS], mem: &Parts, op: u32, f: Flow) -> Plan
+    ensures { λ p. ⌜ record { r = now (r .exit); p = p } ≡ move-to-ccr (now (r .entry)) (view-of (map now (now (mem .entry)))) op f ⌝ }
 {
     let w = operand::source(r, mem, op / 8 % 8, op % 8, codes::WORD, f);
     let g = w.flow;
@@ -68,8 +70,8 @@ pub fn move_to_ccr(r: &mut [u32; SLOTS], mem: &[u8], op: u32, f: Flow) -> Plan
 }
 
 // MOVE to SR.
-pub fn move_to_sr(r: &mut [u32; SLOTS], mem: &[u8], op: u32, f: Flow) -> Plan
-    ensures { λ p. ⌜ record { r = now (r .exit); p = p } ≡ move-to-sr (now (r .entry)) (view-of (now (mem .entry))) op f ⌝ }
+pub fn move_to_sr(r: &mut [u32; SLOTS], mem: &Parts, op: u32, f: Flow) -> Plan
+    ensures { λ p. ⌜ record { r = now (r .exit); p = p } ≡ move-to-sr (now (r .entry)) (view-of (map now (now (mem .entry)))) op f ⌝ }
 {
     let w = operand::source(r, mem, op / 8 % 8, op % 8, codes::WORD, f);
     let g = w.flow;
@@ -102,8 +104,8 @@ pub fn reset_devices(f: Flow) -> Plan
 }
 
 // RTE. The jump comes before SR is written.
-pub fn return_exception(r: &mut [u32; SLOTS], mem: &[u8], op: u32, f: Flow) -> Plan
-    ensures { λ p. ⌜ record { r = now (r .exit); p = p } ≡ return-exception (now (r .entry)) (view-of (now (mem .entry))) op f ⌝ }
+pub fn return_exception(r: &mut [u32; SLOTS], mem: &Parts, op: u32, f: Flow) -> Plan
+    ensures { λ p. ⌜ record { r = now (r .exit); p = p } ≡ return-exception (now (r .entry)) (view-of (map now (now (mem .entry)))) op f ⌝ }
 {
     let s = operand::source(
         r,
@@ -127,8 +129,8 @@ pub fn return_exception(r: &mut [u32; SLOTS], mem: &[u8], op: u32, f: Flow) -> P
 }
 
 // STOP. A word with S clear is refused, once it is read.
-pub fn stop(mem: &[u8], f: Flow) -> Plan
-    ensures { λ p. ⌜ p ≡ stop-plan (view-of (now (mem .entry))) f ⌝ }
+pub fn stop(mem: &Parts, f: Flow) -> Plan
+    ensures { λ p. ⌜ p ≡ stop-plan (view-of (map now (now (mem .entry)))) f ⌝ }
 {
     let w = bus::next_word(mem, f);
     let g = w.flow;
@@ -158,8 +160,8 @@ pub fn trap_overflow(f: Flow) -> Plan
 }
 
 // CHK.
-pub fn check_bounds(r: &mut [u32; SLOTS], mem: &[u8], op: u32, f: Flow) -> Plan
-    ensures { λ p. ⌜ record { r = now (r .exit); p = p } ≡ check-bounds (now (r .entry)) (view-of (now (mem .entry))) op f ⌝ }
+pub fn check_bounds(r: &mut [u32; SLOTS], mem: &Parts, op: u32, f: Flow) -> Plan
+    ensures { λ p. ⌜ record { r = now (r .exit); p = p } ≡ check-bounds (now (r .entry)) (view-of (map now (now (mem .entry)))) op f ⌝ }
 {
     let w = operand::source(r, mem, op / 8 % 8, op % 8, codes::WORD, f);
     let g = w.flow;

@@ -2,12 +2,14 @@
 // Means: specs/Clocks.antt of the crate clocks.  Laws: ClockLaws, UnrolledLaws there.
 // Uses: codes, bits, flags, bus, operand, bitwise, clocks.  Source: [003 D], [K2].
 ghost use mathlib.Core.Path.{_≡_};
+ghost use mathlib.Core.List.{map};
 ghost use Prim.Native.Nat.{_%_, _<_};
 ghost use Rattle.bus.specs.Bus.{view-of};
 ghost use Rattle.clocks.specs.Clocks.{place, operand-clocks, by-long, general, sized, addressed, narrow, paired, peripheral, moved, located, jumped};
 ghost use Rattle.clocks.specs.Clocks.{listed, stored, loaded, factor, signed, unsigned, shifted, bit-clocks, branched, counted-by, counted};
 ghost use Rattle.clocks.specs.Clocks.{conditional, exception-clocks};
 use bus::Flow;
+use bus::Parts;
 use clocks::tables;
 use codes::SLOTS;
 
@@ -119,29 +121,29 @@ pub fn jumped(a: u8, op: u32) -> u32
     bits::wide(a) + bits::wide(tables::jmp(place(op / 8 % 8, op % 8)))
 }
 
-fn listed(a: u8, b: u8, mem: &[u8], op: u32, f: Flow) -> u32
-    ensures { λ n. ⌜ n ≡ listed a b (view-of (now (mem .entry))) op f ⌝ }
+fn listed(a: u8, b: u8, mem: &Parts, op: u32, f: Flow) -> u32
+    ensures { λ n. ⌜ n ≡ listed a b (view-of (map now (now (mem .entry)))) op f ⌝ }
     ensures { λ n. ⌜ n < 4096 ⌝ }
 {
     let w = bus::next_word(mem, f);
     bits::ones_of(w.value) * bits::wide(by_long(a, b, op / 64 % 2 == 1))
 }
 
-pub fn stored(a: u8, b: u8, mem: &[u8], op: u32, f: Flow) -> u32
-    ensures { λ n. ⌜ n ≡ stored a b (view-of (now (mem .entry))) op f ⌝ }
+pub fn stored(a: u8, b: u8, mem: &Parts, op: u32, f: Flow) -> u32
+    ensures { λ n. ⌜ n ≡ stored a b (view-of (map now (now (mem .entry)))) op f ⌝ }
 {
     bits::wide(tables::store(place(op / 8 % 8, op % 8))) + listed(a, b, mem, op, f)
 }
 
-pub fn loaded(a: u8, b: u8, mem: &[u8], op: u32, f: Flow) -> u32
-    ensures { λ n. ⌜ n ≡ loaded a b (view-of (now (mem .entry))) op f ⌝ }
+pub fn loaded(a: u8, b: u8, mem: &Parts, op: u32, f: Flow) -> u32
+    ensures { λ n. ⌜ n ≡ loaded a b (view-of (map now (now (mem .entry)))) op f ⌝ }
 {
     bits::wide(tables::load(place(op / 8 % 8, op % 8))) + listed(a, b, mem, op, f)
 }
 
 // The word that MULS and MULU take, read once more: these are rare.
-fn factor(r: &[u32; SLOTS], mem: &[u8], op: u32, f: Flow) -> u32
-    ensures { λ x. ⌜ x ≡ factor (now (r .entry)) (view-of (now (mem .entry))) op f ⌝ }
+fn factor(r: &[u32; SLOTS], mem: &Parts, op: u32, f: Flow) -> u32
+    ensures { λ x. ⌜ x ≡ factor (now (r .entry)) (view-of (map now (now (mem .entry)))) op f ⌝ }
     ensures { λ x. ⌜ x < 65536 ⌝ }
 {
     let q = operand::locate(r, mem, op / 8 % 8, op % 8, codes::WORD, f);
@@ -150,15 +152,15 @@ fn factor(r: &[u32; SLOTS], mem: &[u8], op: u32, f: Flow) -> u32
     w.value % 65536
 }
 
-pub fn signed(a: u8, r: &[u32; SLOTS], mem: &[u8], op: u32, f: Flow) -> u32
-    ensures { λ n. ⌜ n ≡ signed a (now (r .entry)) (view-of (now (mem .entry))) op f ⌝ }
+pub fn signed(a: u8, r: &[u32; SLOTS], mem: &Parts, op: u32, f: Flow) -> u32
+    ensures { λ n. ⌜ n ≡ signed a (now (r .entry)) (view-of (map now (now (mem .entry)))) op f ⌝ }
 {
     let x = factor(r, mem, op, f);
     narrow(a, a, op) + bits::ones_of(x ^ (x * 2 % 65536)) * 2
 }
 
-pub fn unsigned(a: u8, r: &[u32; SLOTS], mem: &[u8], op: u32, f: Flow) -> u32
-    ensures { λ n. ⌜ n ≡ unsigned a (now (r .entry)) (view-of (now (mem .entry))) op f ⌝ }
+pub fn unsigned(a: u8, r: &[u32; SLOTS], mem: &Parts, op: u32, f: Flow) -> u32
+    ensures { λ n. ⌜ n ≡ unsigned a (now (r .entry)) (view-of (map now (now (mem .entry)))) op f ⌝ }
 {
     narrow(a, a, op) + bits::ones_of(factor(r, mem, op, f)) * 2
 }

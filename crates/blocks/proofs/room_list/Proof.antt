@@ -1,4 +1,6 @@
 use Prim.Native.Nat.{_-_}
+use mathlib.Core.List.{map}
+use denote.Ref.{now}
 use borrow.Author.Needs.{needs}
 use Rattle.bits.proofs.BitsLaws.{Turns, turns-start, turns-again}
 use Rattle.bus.specs.Bus.{view-of}
@@ -8,7 +10,7 @@ use Rattle.blocks.proofs.room_list.Statement.{statement}
 use Rattle.blocks.proofs.room_list.Tie as tie
 
 abbrev Inv-loop : tie.InvT-loop
-Inv-loop mem w d₀ j₀ d j = Turns (room-one (view-of mem) w) 16 j d₀ d
+Inv-loop mem w d₀ j₀ d j = Turns (room-one (view-of (map now mem)) w) 16 j d₀ d
 
 abbrev μ-loop : tie.MeasureT-loop
 μ-loop mem w d₀ j₀ d j = 16 - j

@@ -1,4 +1,6 @@
 use Prim.Native.Nat.{_-_}
+use mathlib.Core.List.{map}
+use denote.Ref.{now}
 use borrow.Author.Needs.{needs}
 use Rattle.bits.proofs.BitsLaws.{Turns, turns-start, turns-again}
 use Rattle.bus.specs.Bus.{view-of}
@@ -8,7 +10,7 @@ use Rattle.movem.proofs.load_list.Statement.{statement}
 use Rattle.movem.proofs.load_list.Tie as tie
 
 abbrev Inv-loop : tie.InvT-loop
-Inv-loop r₀ mem k w d₀ j₀ r d j = Turns (load-one (view-of mem) k w) 16 j (walk r₀ d₀) (walk r d)
+Inv-loop r₀ mem k w d₀ j₀ r d j = Turns (load-one (view-of (map now mem)) k w) 16 j (walk r₀ d₀) (walk r d)
 
 abbrev μ-loop : tie.MeasureT-loop
 μ-loop r₀ mem k w d₀ j₀ r d j = 16 - j
