@@ -11,7 +11,7 @@ use lib.Dec.{ltb, leb}
 use Rattle.bits.specs.Bits.{pick}
 use Rattle.bus.specs.declared.Flow.{Flow}
 use Rattle.bus.specs.declared.Fetched.{Fetched}
-use Rattle.bus.specs.Bus.{view-of, read-long}
+use Rattle.bus.specs.Bus.{all-of, read-long}
 use Rattle.bank.specs.Bank.{long, sr-of, mode-of}
 use Rattle.exception.specs.Exceptions.{fresh}
 use Rattle.record.specs.Limits.{longest-record, valid-status}
@@ -57,7 +57,7 @@ module _ (w : Manner) (j : List ℕ) (mark : ℕ) where
 
 -- the slots of a reset
 module _ (m : List ℕ) where
-  pub reset-slots-is : (d e : Flow) (x y : Fetched) → d ≡ fresh 0 0 → x ≡ read-long (view-of m) 0 17 d → e ≡ fresh 0 0 → y ≡ read-long (view-of m) 4 17 e → x .value < 2 ^ 32 → y .value < 2 ^ 32
+  pub reset-slots-is : (d e : Flow) (x y : Fetched) → d ≡ fresh 0 0 → x ≡ read-long (all-of m) 0 17 d → e ≡ fresh 0 0 → y ≡ read-long (all-of m) 4 17 e → x .value < 2 ^ 32 → y .value < 2 ^ 32
       → (0 ∷ 0 ∷ 0 ∷ 0 ∷ 0 ∷ 0 ∷ 0 ∷ 0 ∷ 0 ∷ 0 ∷ 0 ∷ 0 ∷ 0 ∷ 0 ∷ 0 ∷ 0 ∷ x .value ∷ y .value ∷ 9984 ∷ 0 ∷ []) ≡ reset-slots m
   reset-slots-is d e x y p q r t h k =
       let a : x .value ≡ long (x .value) = omega arith in

@@ -32,8 +32,8 @@ pub fn state_fits(slots: &[u32; SLOTS]) -> bool
 pub fn reset_slots(memory: &[u8]) -> [u32; SLOTS]
     ensures { λ r. ⌜ r ≡ reset-slots (now (memory .entry)) ⌝ }
 {
-    let ssp = bus::read_long(memory, 0, codes::DATA_READ, exception::fresh(0, 0));
-    let pc = bus::read_long(memory, 4, codes::DATA_READ, exception::fresh(0, 0));
+    let ssp = bus::read_long_anywhere(memory, 0, codes::DATA_READ, exception::fresh(0, 0));
+    let pc = bus::read_long_anywhere(memory, 4, codes::DATA_READ, exception::fresh(0, 0));
     [
         0,
         0,

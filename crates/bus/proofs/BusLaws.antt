@@ -3,7 +3,7 @@
 -- Uses: bits.
 use Prim.Native.Nat.{ℕ, zero, suc, _+_, _*_, _%_, _<_}
 use native.Mathlib.Omega.{arith}
-use mathlib.Core.Path.{_≡_, refl, ap}
+use mathlib.Core.Path.{_≡_, refl, ap, _∙_}
 use mathlib.Core.Bool.{Bool, true, false, _&&_}
 use mathlib.Core.List.{List, [], _∷_, map}
 use lib.ListN.{length, getD}
@@ -94,6 +94,17 @@ module _ (v : View) (a z : ℕ) (f : Flow) where
   pub room-long : (r : Fetched) → eqb z 0 ≡ false → eqb z 1 ≡ false → r ≡ read-long v a 1 f → r .flow ≡ room v a z f
   unfolding room read-sized by-size
   room-long r t u e = cc
+
+-- q is what the code lends: all of the memory m
+module _ (m : List ℕ) (q : List (List ℕ)) (a : ℕ) (f : Flow) (all : q ≡ whole m) where
+  shows-all : view-of q ≡ all-of m
+  shows-all = ap view-of all ∙ whole-shows m
+
+  pub room-anywhere : (z : ℕ) (g : Flow) → g ≡ room (view-of q) a z f → g ≡ room (all-of m) a z f
+  room-anywhere z g e = e ∙ ap (λ (v : View). room v a z f) shows-all
+
+  pub long-anywhere : (k : ℕ) (w : Fetched) → w ≡ read-long (view-of q) a k f → w ≡ read-long (all-of m) a k f
+  long-anywhere k w e = e ∙ ap (λ (v : View). read-long v a k f) shows-all
 
 module _ (v : View) (f : Flow) where
   pub next-word-is : (w : Fetched) (b : ℕ) (g : Flow) → w ≡ read-word v (f .pc) 18 f → b ≡ plus (f .pc) 2 → g ≡ with-pc (w .flow) b → fetched (w .value) g ≡ next-word v f

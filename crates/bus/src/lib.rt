@@ -5,7 +5,7 @@ ghost use mathlib.Core.Path.{_≡_};
 ghost use mathlib.Core.List.{map};
 ghost use Prim.Native.Nat.{_+_, _*_, _%_, _/_, _<_};
 ghost use lib.ListN.{length};
-ghost use Rattle.bus.specs.Bus.{part, view-of, whole, failed, with-pc, with-sr, read-byte, read-word, read-long, read-sized, room, next-word, next-long};
+ghost use Rattle.bus.specs.Bus.{all-of, part, view-of, whole, failed, with-pc, with-sr, read-byte, read-word, read-long, read-sized, room, next-word, next-long};
 
 // The addresses that user state may touch: from lo to below hi. The host sets it; no step or undo changes it.
 pub struct Window {
@@ -196,6 +196,24 @@ pub fn room(mem: &Parts, a: u32, z: u32, f: Flow) -> Flow
     let w = read_long(mem, a, codes::DATA_WRITE, f);
     w.flow
 }
+
+// ---- the same in all of memory, for what no window hides: frames and vectors
+
+pub fn room_anywhere(mem: &[u8], a: u32, z: u32, f: Flow) -> Flow
+    ensures { λ r. ⌜ r ≡ room (all-of (now (mem .entry))) a z f ⌝ }
+{
+    let all = whole(mem);
+    room(&all, a, z, f)
+}
+
+pub fn read_long_anywhere(mem: &[u8], a: u32, k: u32, f: Flow) -> Fetched
+    ensures { λ r. ⌜ r ≡ read-long (all-of (now (mem .entry))) a k f ⌝ }
+{
+    let all = whole(mem);
+    read_long(&all, a, k, f)
+}
+
+// ---- the words of an instruction
 
 // The next word of the instruction.
 pub fn next_word(mem: &Parts, f: Flow) -> Fetched

@@ -9,7 +9,7 @@ use lib.ListN.{length}
 use lib.Dec.{ltb, leb, eqb}
 use Rattle.codes.specs.Codes.{Running, Stopped, Halted, ResetStatus, LeastMemory, MostMemory, TopLevel, MostSteps, NoEvent, DataRead}
 use Rattle.bits.specs.Bits.{pick}
-use Rattle.bus.specs.Bus.{view-of, read-long}
+use Rattle.bus.specs.Bus.{all-of, read-long}
 use Rattle.bank.specs.Bank.{long, pc-of, sr-of, mode-of}
 use Rattle.exception.specs.Exceptions.{fresh}
 use Rattle.step.specs.Steps.{one-step, step-clocks}
@@ -41,7 +41,7 @@ state-fits s = valid-status (sr-of s) && leb (mode-of s) Halted
 abbrev pub reset-slots : List ℕ → List ℕ
 reset-slots m =
     0 ∷ 0 ∷ 0 ∷ 0 ∷ 0 ∷ 0 ∷ 0 ∷ 0 ∷ 0 ∷ 0 ∷ 0 ∷ 0 ∷ 0 ∷ 0 ∷ 0 ∷ 0
-    ∷ long (read-long (view-of m) 0 DataRead (fresh 0 0) .value) ∷ long (read-long (view-of m) 4 DataRead (fresh 0 0) .value) ∷ ResetStatus ∷ Running ∷ []
+    ∷ long (read-long (all-of m) 0 DataRead (fresh 0 0) .value) ∷ long (read-long (all-of m) 4 DataRead (fresh 0 0) .value) ∷ ResetStatus ∷ Running ∷ []
 
 -- a refused reset: halted, and 0 in every other slot  [01 Calls, table]
 abbrev pub refused-slots : List ℕ

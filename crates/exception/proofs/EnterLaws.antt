@@ -12,7 +12,7 @@ use borrow.Author.Tests.{ne-eqb, ltb-true, ltb-false, lt-ltb}
 use Rattle.bits.specs.Bits.{plus}
 use Rattle.bus.specs.declared.Flow.{Flow}
 use Rattle.bus.specs.declared.Fetched.{Fetched}
-use Rattle.bus.specs.Bus.{View, view-of, read-word, read-long, pins}
+use Rattle.bus.specs.Bus.{View, all-of, read-word, read-long, pins}
 use Rattle.bus.proofs.BusLaws.{word-inside}
 use Rattle.frames.specs.Frames.{small-frame, big-frame}
 use Rattle.frames.specs.Under.{under-small, under-big}
@@ -23,15 +23,15 @@ use Rattle.exception.specs.Exceptions.{fresh, of-fault, handler, can-ent
 
 -- a word outside memory is read as 0, after a fault too
 word-past : (b c : Bool) (n : List ℕ) (a k : ℕ) (f : Flow) → eqb (f .bad) 0 ≡ b → eqb (pins a % 2) 1 ≡ c → ltb (pins a + 1) (length n) ≡ false
-    → read-word (view-of n) a k f .value ≡ 0
-unfolding read-word view-of
+    → read-word (all-of n) a k f .value ≡ 0
+unfolding read-word all-of
 word-past true true n a k f d e h = cc
 word-past true false n a k f d e h = cc
 word-past false c n a k f d e h = cc
 
 module _ (n : List ℕ) (k : ℕ) where
   word-at : (a : ℕ) → a % 2 ≡ 0 → a < 2048 → a + 1 < length n
-      → read-word (view-of n) a k (fresh 0 0) ≡ record { value = getD n a 0 * 256 + getD n (a + 1) 0; flow = fresh 0 0 }
+      → read-word (all-of n) a k (fresh 0 0) ≡ record { value = getD n a 0 * 256 + getD n (a + 1) 0; flow = fresh 0 0 }
   word-at a even low h =
       let q : pins a ≡ a = omega (arith, low) in
       sym (word-inside n a k (fresh 0 0) refl (getD n a 0) (getD n (a + 1) 0)
@@ -42,7 +42,7 @@ module _ (n : List ℕ) (k : ℕ) where
 
   -- a: the vector's place, even and below 1,024; t: whether memory has all of it
   long-parity : (t : Bool) (a : ℕ) → ltb (a + 3) (length n) ≡ t → a % 2 ≡ 0 → a < 1024
-      → read-long (view-of n) a k (fresh 0 0) .value % 2 ≡ getD n (a + 3) 0 % 2
+      → read-long (all-of n) a k (fresh 0 0) .value % 2 ≡ getD n (a + 3) 0 % 2
   unfolding read-long
   long-parity true a h even low =
       let l = ltb-true (a + 3) (length n) h in
@@ -52,25 +52,25 @@ module _ (n : List ℕ) (k : ℕ) where
       let y = word-at (a + 2) (omega (arith, even)) (omega (arith, low)) (omega (arith, l)) in
       let w = getD n (a + 2) 0 in
       let b = getD n (a + 3) 0 in
-      let z : read-word (view-of n) (plus a 2) k (read-word (view-of n) a k (fresh 0 0) .flow) .value ≡ w * 256 + b =
-      ap (λ (r : Fetched). read-word (view-of n) (plus a 2) k (r .flow) .value) x
-      ∙ ap (λ (i : ℕ). read-word (view-of n) i k (fresh 0 0) .value) e ∙ ap (λ (r : Fetched). r .value) y
+      let z : read-word (all-of n) (plus a 2) k (read-word (all-of n) a k (fresh 0 0) .flow) .value ≡ w * 256 + b =
+      ap (λ (r : Fetched). read-word (all-of n) (plus a 2) k (r .flow) .value) x
+      ∙ ap (λ (i : ℕ). read-word (all-of n) i k (fresh 0 0) .value) e ∙ ap (λ (r : Fetched). r .value) y
       ∙ ap (λ (i : ℕ). w * 256 + getD n i 0) g in
       omega (arith, z)
   long-parity false a h even low =
       let l = ltb-false (a + 3) (length n) h in
       let e : pins (plus a 2) + 1 ≡ a + 3 = omega (arith, low) in
-      let f = read-word (view-of n) a k (fresh 0 0) in
-      let y : read-word (view-of n) (plus a 2) k (f .flow) .value ≡ 0 =
+      let f = read-word (all-of n) a k (fresh 0 0) in
+      let y : read-word (all-of n) (plus a 2) k (f .flow) .value ≡ 0 =
       word-past (eqb (f .flow .bad) 0) (eqb (pins (plus a 2) % 2) 1) n (plus a 2) k (f .flow) refl refl
       (ap (λ (i : ℕ). ltb i (length n)) e ∙ h) in
       let b : getD n (a + 3) 0 ≡ 0 = List·getD-eq-default n 0 {n = a + 3} (omega (arith, l)) in
       omega (arith, y, b)
 
-pub handler-parity : (n : List ℕ) (vec : ℕ) → handler (view-of n) vec % 2 ≡ getD n (vec % 256 * 4 + 3) 0 % 2
+pub handler-parity : (n : List ℕ) (vec : ℕ) → handler (all-of n) vec % 2 ≡ getD n (vec % 256 * 4 + 3) 0 % 2
 unfolding handler
 handler-parity n vec =
-    let x = read-long (view-of n) (vec % 256 * 4) 17 (fresh 0 0) .value in
+    let x = read-long (all-of n) (vec % 256 * 4) 17 (fresh 0 0) .value in
     let e = long-parity n 17 (ltb (vec % 256 * 4 + 3) (length n)) (vec % 256 * 4) refl (omega arith) (omega arith) in
     omega (arith, e)
 
@@ -87,7 +87,7 @@ other-enters v vec j e f = cc
 
 -- n is memory with the frame over it
 module _ (m n : List ℕ) (vec b c : ℕ) (j : Bool) (e : j ≡ of-fault vec) (f : j ≡ true) (o : Over (vec % 256 * 4 + 3) b c m n) where
-  enters-inside : ltb (vec % 256 * 4 + 3) (length m) ≡ true → b ≡ getD m (vec % 256 * 4 + 3) 0 → eqb (c % 2) 0 ≡ can-enter (view-of n) vec
+  enters-inside : ltb (vec % 256 * 4 + 3) (length m) ≡ true → b ≡ getD m (vec % 256 * 4 + 3) 0 → eqb (c % 2) 0 ≡ can-enter (all-of n) vec
   unfolding can-enter
   enters-inside l d =
       let p = handler-parity n vec in
@@ -95,7 +95,7 @@ module _ (m n : List ℕ) (vec b c : ℕ) (j : Bool) (e : j ≡ of-fault vec) (f
       let k = not-odd (c % 2) (omega arith) in
       cc
 
-  enters-outside : ltb (vec % 256 * 4 + 3) (length m) ≡ false → true ≡ can-enter (view-of n) vec
+  enters-outside : ltb (vec % 256 * 4 + 3) (length m) ≡ false → true ≡ can-enter (all-of n) vec
   unfolding can-enter
   enters-outside l =
       let p = handler-parity n vec in
@@ -106,12 +106,12 @@ module _ (m n : List ℕ) (vec b c : ℕ) (j : Bool) (e : j ≡ of-fault vec) (f
 
 module _ (m : List ℕ) (a vec sr pc : ℕ) (j : Bool) (e : j ≡ of-fault vec) (f : j ≡ true) where
   pub small-enters-inside : (b c : ℕ) → ltb (vec % 256 * 4 + 3) (length m) ≡ true → b ≡ getD m (vec % 256 * 4 + 3) 0
-      → c ≡ under-small (vec % 256 * 4 + 3) b a sr pc → eqb (c % 2) 0 ≡ can-enter (view-of (small-frame m a sr pc)) vec
+      → c ≡ under-small (vec % 256 * 4 + 3) b a sr pc → eqb (c % 2) 0 ≡ can-enter (all-of (small-frame m a sr pc)) vec
   small-enters-inside b c l d g =
       let i = vec % 256 * 4 + 3 in
       let k = enters-inside m (small-frame m a sr pc) vec b (under-small i b a sr pc) j e f (over-small i m b a sr pc) l d in cc
 
-  pub small-enters-outside : ltb (vec % 256 * 4 + 3) (length m) ≡ false → true ≡ can-enter (view-of (small-frame m a sr pc)) vec
+  pub small-enters-outside : ltb (vec % 256 * 4 + 3) (length m) ≡ false → true ≡ can-enter (all-of (small-frame m a sr pc)) vec
   small-enters-outside l =
       let i = vec % 256 * 4 + 3 in
       enters-outside m (small-frame m a sr pc) vec 0 (under-small i 0 a sr pc) j e f (over-small i m 0 a sr pc) l
@@ -135,7 +135,7 @@ module _ (m : List ℕ) (a bad op sr pc : ℕ) where
   cut = omega arith
 
   pub big-enters-inside : (b c : ℕ) → leb 2 (bad % 4) ≡ true → ltb end (length m) ≡ true → b ≡ getD m end 0 → c ≡ under-big end b a bad op sr pc
-      → eqb (c % 2) 0 ≡ can-enter (view-of (big-frame m a bad op sr pc)) (bad % 4)
+      → eqb (c % 2) 0 ≡ can-enter (all-of (big-frame m a bad op sr pc)) (bad % 4)
   big-enters-inside b c f l d g =
       let i = bad % 4 % 256 * 4 + 3 in
       let n = big-frame m a bad op sr pc in
@@ -143,11 +143,11 @@ module _ (m : List ℕ) (a bad op sr pc : ℕ) where
       enters-inside m n (bad % 4) b c true (sym f ∙ sym known) refl (subst (λ (x : ℕ). Over i b x m n) u (over-big i m b a bad op sr pc))
       (ap (λ (x : ℕ). ltb x (length m)) cut ∙ l) (d ∙ ap (λ (x : ℕ). getD m x 0) (sym cut))
 
-  pub big-enters-outside : leb 2 (bad % 4) ≡ true → ltb end (length m) ≡ false → true ≡ can-enter (view-of (big-frame m a bad op sr pc)) (bad % 4)
+  pub big-enters-outside : leb 2 (bad % 4) ≡ true → ltb end (length m) ≡ false → true ≡ can-enter (all-of (big-frame m a bad op sr pc)) (bad % 4)
   big-enters-outside f l =
       let i = bad % 4 % 256 * 4 + 3 in
       enters-outside m (big-frame m a bad op sr pc) (bad % 4) 0 (under-big i 0 a bad op sr pc) true (sym f ∙ sym known) refl (over-big i m 0 a bad op sr pc)
       (ap (λ (x : ℕ). ltb x (length m)) cut ∙ l)
 
-  pub big-enters-other : leb 2 (bad % 4) ≡ false → true ≡ can-enter (view-of (big-frame m a bad op sr pc)) (bad % 4)
-  big-enters-other f = other-enters (view-of (big-frame m a bad op sr pc)) (bad % 4) false (sym f ∙ sym known) refl
+  pub big-enters-other : leb 2 (bad % 4) ≡ false → true ≡ can-enter (all-of (big-frame m a bad op sr pc)) (bad % 4)
+  big-enters-other f = other-enters (all-of (big-frame m a bad op sr pc)) (bad % 4) false (sym f ∙ sym known) refl

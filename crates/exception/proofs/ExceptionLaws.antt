@@ -12,7 +12,7 @@ use Rattle.bits.specs.Bits.{plus, minus}
 use Rattle.bank.specs.Bank.{long, ssp-of, pc-of, sr-of}
 use Rattle.bus.specs.declared.Flow.{Flow}
 use Rattle.bus.specs.declared.Fetched.{Fetched}
-use Rattle.bus.specs.Bus.{View, view-of, read-long, room}
+use Rattle.bus.specs.Bus.{View, all-of, read-long, room}
 use Rattle.frames.specs.Frames.{small-frame, big-frame}
 use Rattle.exception.specs.Exceptions.{fresh, supervisor-sr, small-room, big-room, handler, can-enter, small-ready, big-ready, enter, exception, fault-taken, fault}
 
@@ -27,13 +27,13 @@ module _ (v : View) (a : ℕ) where
 
 -- whether an exception can be taken
 module _ (s m : List ℕ) (a pc : ℕ) (x y : Bool) where
-  pub small-ready-is : (vec : ℕ) → a ≡ minus (ssp-of s) 6 → x ≡ small-room (view-of m) a
-      → y ≡ can-enter (view-of (small-frame m a (sr-of s) (pc-of s))) vec → (x && y) ≡ small-ready s m vec
+  pub small-ready-is : (vec : ℕ) → a ≡ minus (ssp-of s) 6 → x ≡ small-room (all-of m) a
+      → y ≡ can-enter (all-of (small-frame m a (sr-of s) (pc-of s))) vec → (x && y) ≡ small-ready s m vec
   unfolding small-ready
   small-ready-is vec e1 e2 e3 = cc
 
-  pub big-ready-is : (bad op : ℕ) → a ≡ minus (ssp-of s) 14 → pc ≡ plus (pc-of s) 2 → x ≡ big-room (view-of m) a
-      → y ≡ can-enter (view-of (big-frame m a bad op (sr-of s) pc)) (bad % 4) → (x && y) ≡ big-ready s m bad op
+  pub big-ready-is : (bad op : ℕ) → a ≡ minus (ssp-of s) 14 → pc ≡ plus (pc-of s) 2 → x ≡ big-room (all-of m) a
+      → y ≡ can-enter (all-of (big-frame m a bad op (sr-of s) pc)) (bad % 4) → (x && y) ≡ big-ready s m bad op
   unfolding big-ready
   big-ready-is bad op e1 e2 e3 e4 = cc
 
@@ -46,7 +46,7 @@ enter-is s v a vec sr e w e1 e2 h = let l : w .value ≡ long (w .value) = omega
 module _ (s m : List ℕ) (vec sr : ℕ) (b : Bool) (e1 : b ≡ small-ready s m vec) where
   module _ (y : b ≡ true) where
     module _ (n : List ℕ) (a : ℕ) (e2 : a ≡ minus (ssp-of s) 6) (e3 : n ≡ small-frame m a (sr-of s) (pc-of s)) where
-      pub exception-slots : (t : List ℕ) → t ≡ enter s (view-of n) a vec sr → t ≡ exception s m vec sr .s
+      pub exception-slots : (t : List ℕ) → t ≡ enter s (all-of n) a vec sr → t ≡ exception s m vec sr .s
       unfolding exception
       exception-slots t e = cc
 
@@ -74,7 +74,7 @@ module _ (s m : List ℕ) (vec sr : ℕ) (b : Bool) (e1 : b ≡ small-ready s m 
 -- a fault that can be taken
 module _ (s m : List ℕ) (bad op : ℕ) where
   module _ (n : List ℕ) (a pc : ℕ) (e1 : a ≡ minus (ssp-of s) 14) (e2 : pc ≡ plus (pc-of s) 2) (e3 : n ≡ big-frame m a bad op (sr-of s) pc) where
-    pub fault-taken-slots : (t : List ℕ) (sr : ℕ) → sr ≡ supervisor-sr (sr-of s) → t ≡ enter s (view-of n) a (bad % 4) sr → t ≡ fault-taken s m bad op .s
+    pub fault-taken-slots : (t : List ℕ) (sr : ℕ) → sr ≡ supervisor-sr (sr-of s) → t ≡ enter s (all-of n) a (bad % 4) sr → t ≡ fault-taken s m bad op .s
     unfolding fault-taken
     fault-taken-slots t sr d h = cc
 

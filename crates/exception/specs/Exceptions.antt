@@ -10,7 +10,7 @@ use Rattle.codes.specs.Codes.{Word, Long, Ssp, Pc, Sr, Mode, Running, Halted, S
 use Rattle.bits.specs.Bits.{pick, plus, minus}
 use Rattle.bank.specs.Bank.{long, ssp-of, pc-of, sr-of}
 use Rattle.bus.specs.declared.Flow.{Flow}
-use Rattle.bus.specs.Bus.{View, view-of, read-long, room, fault-vector}
+use Rattle.bus.specs.Bus.{View, all-of, read-long, room, fault-vector}
 use Rattle.frames.specs.Frames.{small-frame, big-frame}
 
 -- slots and memory, and the event  [ours]
@@ -56,14 +56,14 @@ small-room v a = eqb (room v (plus a 2) Long (room v a Word (fresh 0 0)) .bad) 0
 unfoldable pub small-ready : List ℕ → List ℕ → ℕ → Bool
 small-ready s m vec =
     let a = minus (ssp-of s) 6 in
-    small-room (view-of m) a && can-enter (view-of (small-frame m a (sr-of s) (pc-of s))) vec
+    small-room (all-of m) a && can-enter (all-of (small-frame m a (sr-of s) (pc-of s))) vec
 
 -- the frame is written, then the vector is read  [003 4.3.5] [01 step 1]
 unfoldable pub exception : List ℕ → List ℕ → ℕ → ℕ → Stepped
 exception s m vec sr =
     let a = minus (ssp-of s) 6 in
     let n = small-frame m a (sr-of s) (pc-of s) in
-    pick (small-ready s m vec) (record { s = enter s (view-of n) a vec sr; m = n; event = event-of (vec % 256) }) (halted s m)
+    pick (small-ready s m vec) (record { s = enter s (all-of n) a vec sr; m = n; event = event-of (vec % 256) }) (halted s m)
 
 -- whether the fourteen bytes of a fault's frame can be written  [01 step 7] [01 step 8]
 unfoldable pub big-room : View → ℕ → Bool
@@ -77,7 +77,7 @@ big-room v a =
 unfoldable pub big-ready : List ℕ → List ℕ → ℕ → ℕ → Bool
 big-ready s m bad op =
     let a = minus (ssp-of s) 14 in
-    big-room (view-of m) a && can-enter (view-of (big-frame m a bad op (sr-of s) (plus (pc-of s) 2))) (fault-vector bad)
+    big-room (all-of m) a && can-enter (all-of (big-frame m a bad op (sr-of s) (plus (pc-of s) 2))) (fault-vector bad)
 
 -- a bus or address error that can be taken, from the slots before the instruction: the saved PC is its address plus 2
 -- [003 4.4.9.1] [003 4.4.10] [01 step 7]
@@ -85,7 +85,7 @@ unfoldable pub fault-taken : List ℕ → List ℕ → ℕ → ℕ → Stepped
 fault-taken s m bad op =
     let a = minus (ssp-of s) 14 in
     let n = big-frame m a bad op (sr-of s) (plus (pc-of s) 2) in
-    record { s = enter s (view-of n) a (fault-vector bad) (supervisor-sr (sr-of s)); m = n; event = event-of (fault-vector bad) }
+    record { s = enter s (all-of n) a (fault-vector bad) (supervisor-sr (sr-of s)); m = n; event = event-of (fault-vector bad) }
 
 -- a bus or address error  [01 step 7] [01 step 8]
 unfoldable pub fault : List ℕ → List ℕ → ℕ → ℕ → Stepped

@@ -4,7 +4,7 @@
 ghost use mathlib.Core.Path.{_≡_};
 ghost use Prim.Native.Nat.{_+_, _%_, _≤_};
 ghost use lib.ListN.{length};
-ghost use Rattle.bus.specs.Bus.{view-of};
+ghost use Rattle.bus.specs.Bus.{all-of};
 ghost use Rattle.touch.specs.Touch.{LogOk, Noted};
 ghost use Rattle.frames.specs.Frames.{small-frame, big-frame};
 ghost use Rattle.exception.specs.Exceptions.{fresh, supervisor-sr, small-room, of-fault, small-ready, enter, exception, big-room, big-ready};
@@ -35,10 +35,10 @@ pub fn supervisor_sr(sr: u32) -> u32
 
 // Whether the six bytes of a frame can be written.
 fn small_room(mem: &[u8], a: u32) -> bool
-    ensures { λ r. ⌜ r ≡ small-room (view-of (now (mem .entry))) a ⌝ }
+    ensures { λ r. ⌜ r ≡ small-room (all-of (now (mem .entry))) a ⌝ }
 {
-    let g = bus::room(mem, a, codes::WORD, fresh(0, 0));
-    let h = bus::room(mem, std::num::wrapping_add_u32(a, 2), codes::LONG, g);
+    let g = bus::room_anywhere(mem, a, codes::WORD, fresh(0, 0));
+    let h = bus::room_anywhere(mem, std::num::wrapping_add_u32(a, 2), codes::LONG, g);
     h.bad == 0
 }
 
@@ -52,7 +52,7 @@ fn of_fault(vec: u32) -> bool
 // Whether the handler can be entered once the small frame is written. Looked up before it is: an exception that halts writes nothing. The
 // last byte of the vector tells odd from even.
 fn small_enters(mem: &[u8], a: u32, vec: u32, sr: u32, pc: u32) -> bool
-    ensures { λ r. ⌜ r ≡ can-enter (view-of (small-frame (now (mem .entry)) a sr pc)) vec ⌝ }
+    ensures { λ r. ⌜ r ≡ can-enter (all-of (small-frame (now (mem .entry)) a sr pc)) vec ⌝ }
 {
     let judged = of_fault(vec);
     if judged {
@@ -80,9 +80,9 @@ fn small_ready(s: &[u32; SLOTS], mem: &[u8], vec: u32) -> bool
 
 // The slots as an exception leaves them: SSP at the frame, PC from the vector, which is read after the frame is written; running.
 fn enter(s: &mut [u32; SLOTS], mem: &[u8], a: u32, vec: u32, sr: u32)
-    ensures { λ _. ⌜ now (s .exit) ≡ enter (now (s .entry)) (view-of (now (mem .entry))) a vec sr ⌝ }
+    ensures { λ _. ⌜ now (s .exit) ≡ enter (now (s .entry)) (all-of (now (mem .entry))) a vec sr ⌝ }
 {
-    let w = bus::read_long(mem, vec % 256 * 4, codes::DATA_READ, fresh(0, 0));
+    let w = bus::read_long_anywhere(mem, vec % 256 * 4, codes::DATA_READ, fresh(0, 0));
     let pc = w.value;
     s[codes::SSP] = a;
     s[codes::PC] = pc;
@@ -126,18 +126,18 @@ pub fn exception(
 
 // Whether the fourteen bytes of a fault's frame can be written.
 fn big_room(mem: &[u8], a: u32) -> bool
-    ensures { λ r. ⌜ r ≡ big-room (view-of (now (mem .entry))) a ⌝ }
+    ensures { λ r. ⌜ r ≡ big-room (all-of (now (mem .entry))) a ⌝ }
 {
-    let g = bus::room(mem, a, codes::LONG, fresh(0, 0));
-    let h = bus::room(mem, std::num::wrapping_add_u32(a, 4), codes::LONG, g);
-    let i = bus::room(mem, std::num::wrapping_add_u32(a, 8), codes::LONG, h);
-    let j = bus::room(mem, std::num::wrapping_add_u32(a, 12), codes::WORD, i);
+    let g = bus::room_anywhere(mem, a, codes::LONG, fresh(0, 0));
+    let h = bus::room_anywhere(mem, std::num::wrapping_add_u32(a, 4), codes::LONG, g);
+    let i = bus::room_anywhere(mem, std::num::wrapping_add_u32(a, 8), codes::LONG, h);
+    let j = bus::room_anywhere(mem, std::num::wrapping_add_u32(a, 12), codes::WORD, i);
     j.bad == 0
 }
 
 // Whether the handler of a fault can be entered once its frame is written. A fault's vector is below 4: one test is enough.
 fn big_enters(mem: &[u8], a: u32, bad: u32, op: u32, sr: u32, pc: u32) -> bool
-    ensures { λ r. ⌜ r ≡ can-enter (view-of (big-frame (now (mem .entry)) a bad op sr pc)) (bad % 4) ⌝ }
+    ensures { λ r. ⌜ r ≡ can-enter (all-of (big-frame (now (mem .entry)) a bad op sr pc)) (bad % 4) ⌝ }
 {
     let judged = bad % 4 >= 2;
     if judged {

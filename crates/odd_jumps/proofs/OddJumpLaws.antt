@@ -16,7 +16,7 @@ use Rattle.bits.specs.Bits.{plus, minus}
 use Rattle.bits.proofs.BitsLaws.{and-left, and-right}
 use Rattle.flags.specs.Flags.{condition}
 use Rattle.bus.specs.declared.Flow.{Flow}
-use Rattle.bus.specs.Bus.{View, view-of, packed, information, fault-address, fault-information}
+use Rattle.bus.specs.Bus.{View, all-of, packed, information, fault-address, fault-information}
 use Rattle.plan.specs.declared.Plan.{Plan}
 use Rattle.plan.specs.Plans.{Done, jump, push}
 use Rattle.decode.specs.Rows.{kind-of, privileged}
@@ -117,10 +117,10 @@ module _ (j : Nine) (s m : List ℕ) (level vector : ℕ) (h : OddJump j s m lev
   to = leads-from j s m .target
 
   abbrev plan : Plan
-  plan = execute (bank s) (view-of m) op (word-at-pc s m .flow) .p
+  plan = execute (bank s) (all-of m) op (word-at-pc s m .flow) .p
 
   abbrev tried : Attempt
-  tried = attempt (bank s) (view-of m) (fresh (pc-of s) (sr-of s))
+  tried = attempt (bank s) (all-of m) (fresh (pc-of s) (sr-of s))
 
   -- the jump fails, with the SR before it
   jump-fails : jump (leads-from j s m .flow) to .bad ≡ blame s to
@@ -130,32 +130,32 @@ module _ (j : Nine) (s m : List ℕ) (level vector : ℕ) (h : OddJump j s m lev
       let x : eqb (f .bad) 0 ≡ true = eq-eqb (f .bad) 0 (h .clean) in
       let y : eqb (to % 2) 1 ≡ true = eq-eqb (to % 2) 1 (h .odd) in
       let z : f .sr ≡ sr-of s =
-      leads-keeps-sr (view-of m) j (bank s) op (word-at-pc s m .flow) ∙ next-word-keeps-sr (view-of m) (fresh (pc-of s) (sr-of s)) in
+      leads-keeps-sr (all-of m) j (bank s) op (word-at-pc s m .flow) ∙ next-word-keeps-sr (all-of m) (fresh (pc-of s) (sr-of s)) in
       cc
 
-  executed : execute (bank s) (view-of m) op (word-at-pc s m .flow) ≡ dispatch (kind j) (bank s) (view-of m) op (word-at-pc s m .flow)
+  executed : execute (bank s) (all-of m) op (word-at-pc s m .flow) ≡ dispatch (kind j) (bank s) (all-of m) op (word-at-pc s m .flow)
   executed =
       let f = word-at-pc s m .flow in
-      let z : f .sr ≡ sr-of s = next-word-keeps-sr (view-of m) (fresh (pc-of s) (sr-of s)) in
+      let z : f .sr ≡ sr-of s = next-word-keeps-sr (all-of m) (fresh (pc-of s) (sr-of s)) in
       let e = h .found in
       let a : (privileged (kind-of op) && eqb (f .sr / Supervisor % 2) 0) ≡ false = cc (h .allowed) in
-      execute-by (bank s) (view-of m) op f (privileged (kind-of op)) (eqb (f .sr / Supervisor % 2) 0) refl refl a
-      ∙ ap (λ (i : ℕ). dispatch i (bank s) (view-of m) op f) e
+      execute-by (bank s) (all-of m) op f (privileged (kind-of op)) (eqb (f .sr / Supervisor % 2) 0) refl refl a
+      ∙ ap (λ (i : ℕ). dispatch i (bank s) (all-of m) op f) e
 
   plan-fails : plan .flow .bad ≡ blame s to
   plan-fails =
-      ap (λ (d : Done). d .p .flow .bad) executed ∙ planned (bank s) (view-of m) op (word-at-pc s m .flow) j (h .made) .bad ∙ jump-fails
+      ap (λ (d : Done). d .p .flow .bad) executed ∙ planned (bank s) (all-of m) op (word-at-pc s m .flow) j (h .made) .bad ∙ jump-fails
 
   blame-some : eqb (blame s to) 0 ≡ false
   blame-some = ne-eqb (blame s to) 0 (λ e. omega (arith, e))
 
-  checked-fails : checked (view-of m) plan .flow .bad ≡ blame s to
+  checked-fails : checked (all-of m) plan .flow .bad ≡ blame s to
   checked-fails =
       let e : eqb (plan .flow .bad) 0 ≡ false = ap (λ (i : ℕ). eqb i 0) plan-fails ∙ blame-some in
       let k : (ltb (plan .write) NoWrite || eqb (plan .write) NoWrite) ≡ true =
       ap (λ (d : Done). ltb (d .p .write) NoWrite || eqb (d .p .write) NoWrite) executed
-      ∙ planned (bank s) (view-of m) op (word-at-pc s m .flow) j (h .made) .small in
-      checked-by (view-of m) plan (eqb (plan .write) NoWrite) (ltb (plan .write) NoWrite) refl refl k e ∙ plan-fails
+      ∙ planned (bank s) (all-of m) op (word-at-pc s m .flow) j (h .made) .small in
+      checked-by (all-of m) plan (eqb (plan .write) NoWrite) (ltb (plan .write) NoWrite) refl refl k e ∙ plan-fails
 
   tried-fails : tried .t .p .flow .bad ≡ blame s to
   unfolding attempt
@@ -193,7 +193,7 @@ module _ (j : Nine) (s m : List ℕ) (level vector : ℕ) (h : OddJump j s m lev
   abbrev n : List ℕ
   n = blaming s m op to
 
-  ready-is : big-ready s m (blame s to) op ≡ (big-room (view-of m) (minus (ssp-of s) 14) && not (eqb (handler (view-of n) 3 % 2) 1))
+  ready-is : big-ready s m (blame s to) op ≡ (big-room (all-of m) (minus (ssp-of s) 14) && not (eqb (handler (all-of n) 3 % 2) 1))
   unfolding big-ready can-enter
   ready-is = let e = frame-is s m op to in let v : blame s to % 4 ≡ 3 = omega arith in cc
 
@@ -211,7 +211,7 @@ module _ (j : Nine) (s m : List ℕ) (level vector : ℕ) (h : OddJump j s m lev
   blamed e =
       let a = minus (ssp-of s) 14 in
       let sr = supervisor-sr (sr-of s) in
-      let pc = handler (view-of n) 3 in
+      let pc = handler (all-of n) 3 in
       let g = frame-is s m op to in
       let v : blame s to % 4 ≡ 3 = omega arith in
       let slots : fault s m (blame s to) op .s ≡ set (set (set (set s 16 a) 17 pc) 18 sr) 19 0 = cc in
@@ -240,10 +240,10 @@ module _ (j : Nine) (s m : List ℕ) (level vector : ℕ) (h : OddJump j s m lev
       record {
         taken =
             λ e o.
-            blamed (ready-is ∙ cc (e, ne-eqb (handler (view-of n) 3 % 2) 1 (λ z. omega (arith, z, o))));
+            blamed (ready-is ∙ cc (e, ne-eqb (handler (all-of n) 3 % 2) 1 (λ z. omega (arith, z, o))));
         unwritable = λ e. halts (ready-is ∙ cc e);
         odd-handler =
             λ o.
-            let room = big-room (view-of m) (minus (ssp-of s) 14) in
-            let odd = eqb (handler (view-of n) 3 % 2) 1 in halts (ready-is ∙ not-ready room odd (eq-eqb (handler (view-of n) 3 % 2) 1 o));
+            let room = big-room (all-of m) (minus (ssp-of s) 14) in
+            let odd = eqb (handler (all-of n) 3 % 2) 1 in halts (ready-is ∙ not-ready room odd (eq-eqb (handler (all-of n) 3 % 2) 1 o));
       }

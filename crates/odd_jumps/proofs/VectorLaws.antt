@@ -9,7 +9,7 @@ use lib.Dec.{ltb, eqb}
 use borrow.Author.Tests.{eq-eqb}
 use Rattle.codes.specs.Codes.{Mask, TopLevel, event-of}
 use Rattle.bits.specs.Bits.{plus, minus}
-use Rattle.bus.specs.Bus.{View, view-of, fault-vector}
+use Rattle.bus.specs.Bus.{View, all-of, fault-vector}
 use Rattle.bank.specs.Bank.{ssp-of, pc-of, sr-of}
 use Rattle.frames.specs.Frames.{small-frame, big-frame}
 use Rattle.exception.specs.Exceptions.{halted, handler, of-fault, can-enter, enter, small-room, small-ready, exception, big-room, big-ready, fault}
@@ -26,24 +26,24 @@ module _ (s m : List ℕ) (vec : ℕ) where
   abbrev framed : List ℕ
   framed = small-frame m (minus (ssp-of s) 6) (sr-of s) (pc-of s)
 
-  module _ (e : of-fault vec ≡ true) (h : handler (view-of framed) vec % 2 ≡ 1) where
+  module _ (e : of-fault vec ≡ true) (h : handler (all-of framed) vec % 2 ≡ 1) where
     pub odd-vector-halts : (sr : ℕ) → exception s m vec sr ≡ halted s m
     unfolding exception small-ready
-    odd-vector-halts sr = let k = not-entered (small-room (view-of m) (minus (ssp-of s) 6)) (view-of framed) vec e h in cc
+    odd-vector-halts sr = let k = not-entered (small-room (all-of m) (minus (ssp-of s) 6)) (all-of framed) vec e h in cc
 
     pub odd-interrupt-halts : (level : ℕ) → (eqb level TopLevel || ltb (sr-of s / Mask % 8) level) ≡ true → one-step s m level vec ≡ halted s m
     unfolding interrupt
     odd-interrupt-halts level t = sym (step-interrupted s m level vec t) ∙ odd-vector-halts (interrupt-sr (sr-of s) level)
 
-  pub other-vector-taken : (sr : ℕ) → of-fault vec ≡ false → small-room (view-of m) (minus (ssp-of s) 6) ≡ true
-      → exception s m vec sr ≡ record { s = enter s (view-of framed) (minus (ssp-of s) 6) vec sr; m = framed; event = event-of (vec % 256) }
+  pub other-vector-taken : (sr : ℕ) → of-fault vec ≡ false → small-room (all-of m) (minus (ssp-of s) 6) ≡ true
+      → exception s m vec sr ≡ record { s = enter s (all-of framed) (minus (ssp-of s) 6) vec sr; m = framed; event = event-of (vec % 256) }
   unfolding exception small-ready can-enter
   other-vector-taken sr e h = cc
 
 pub odd-fault-halts : (s m : List ℕ) (bad op : ℕ) → of-fault (fault-vector bad) ≡ true
-    → handler (view-of (big-frame m (minus (ssp-of s) 14) bad op (sr-of s) (plus (pc-of s) 2))) (fault-vector bad) % 2 ≡ 1 → fault s m bad op ≡ halted s m
+    → handler (all-of (big-frame m (minus (ssp-of s) 14) bad op (sr-of s) (plus (pc-of s) 2))) (fault-vector bad) % 2 ≡ 1 → fault s m bad op ≡ halted s m
 unfolding fault big-ready
 odd-fault-halts s m bad op e h =
     let n = big-frame m (minus (ssp-of s) 14) bad op (sr-of s) (plus (pc-of s) 2) in
-    let k = not-entered (big-room (view-of m) (minus (ssp-of s) 14)) (view-of n) (fault-vector bad) e h in
+    let k = not-entered (big-room (all-of m) (minus (ssp-of s) 14)) (all-of n) (fault-vector bad) e h in
     cc

@@ -14,7 +14,7 @@ use Rattle.bits.specs.Bits.{plus, minus, sign-word}
 use Rattle.flags.specs.Flags.{condition}
 use Rattle.bus.specs.declared.Flow.{Flow}
 use Rattle.bus.specs.declared.Fetched.{Fetched}
-use Rattle.bus.specs.Bus.{View, view-of, next-word, information, put-word, put-long}
+use Rattle.bus.specs.Bus.{View, all-of, next-word, information, put-word, put-long}
 use Rattle.operand.specs.declared.Operand.{Operand}
 use Rattle.operand.specs.Operands.{locate, source}
 use Rattle.decode.specs.Kinds as k
@@ -87,11 +87,11 @@ leads rte r v op f = pulled-second r v f
 
 -- the operation word at PC, and the flow behind it  [01 step 6]
 abbrev pub word-at-pc : List ℕ → List ℕ → Fetched
-word-at-pc s m = next-word (view-of m) (fresh (pc-of s) (sr-of s))
+word-at-pc s m = next-word (all-of m) (fresh (pc-of s) (sr-of s))
 
 -- where the jump at PC leads  [ours]
 abbrev pub leads-from : Nine → List ℕ → List ℕ → Leads
-leads-from j s m = leads j (bank s) (view-of m) (word-at-pc s m .value) (word-at-pc s m .flow)
+leads-from j s m = leads j (bank s) (all-of m) (word-at-pc s m .value) (word-at-pc s m .flow)
 
 -- a step that makes a jump to an odd address: no interrupt is taken, the machine runs, one of the nine is at PC and is not refused, its jump is
 -- made, nothing failed on the way to its target, and that is odd  [K3]
@@ -118,7 +118,7 @@ pub record Blamed (s n : List ℕ) (t : Stepped) (clocks : ℕ) : Type 0 where
   pub event : t .event ≡ event-of AddressError
   pub memory : t .m ≡ n
   pub stays : (i : ℕ) → i < Ssp → getD (t .s) i 0 ≡ getD s i 0
-  pub slots : t .s ≡ set (set (set (set s Ssp (minus (ssp-of s) 14)) Pc (handler (view-of n) AddressError)) Sr (supervisor-sr (sr-of s))) Mode Running
+  pub slots : t .s ≡ set (set (set (set s Ssp (minus (ssp-of s) 14)) Pc (handler (all-of n) AddressError)) Sr (supervisor-sr (sr-of s))) Mode Running
   pub alone : clocks ≡ 50
 
 -- the step halted: mode 2 alone  [01 step 8] [K3]
@@ -128,6 +128,6 @@ pub record Halts (s m : List ℕ) (t : Stepped) (clocks : ℕ) : Type 0 where
 
 -- what K3 says of an odd jump: blamed, where its frame can be written and vector 3 is then even; else it halts  [K3]
 pub record AsAsked (s m n : List ℕ) (t : Stepped) (clocks : ℕ) : Type 0 where
-  pub taken : big-room (view-of m) (minus (ssp-of s) 14) ≡ true → handler (view-of n) AddressError % 2 ≡ 0 → Blamed s n t clocks
-  pub unwritable : big-room (view-of m) (minus (ssp-of s) 14) ≡ false → Halts s m t clocks
-  pub odd-handler : handler (view-of n) AddressError % 2 ≡ 1 → Halts s m t clocks
+  pub taken : big-room (all-of m) (minus (ssp-of s) 14) ≡ true → handler (all-of n) AddressError % 2 ≡ 0 → Blamed s n t clocks
+  pub unwritable : big-room (all-of m) (minus (ssp-of s) 14) ≡ false → Halts s m t clocks
+  pub odd-handler : handler (all-of n) AddressError % 2 ≡ 1 → Halts s m t clocks
