@@ -19,14 +19,15 @@ use Rattle.codes.specs.Codes.{Ssp, Pc, Sr, Mode, Running, Halted, Mask, TopLeve
 use Rattle.bits.specs.Bits.{pick, plus, minus}
 use Rattle.bits.proofs.BitsLaws.{bit-bound, pick-cases}
 use Rattle.flags.specs.Flags.{sr-bits, with-ccr}
-use Rattle.bus.specs.Bus.{View, view-of}
+use Rattle.bus.specs.declared.Window.{Window}
+use Rattle.bus.specs.Bus.{View}
 use Rattle.record.specs.Limits.{slot-limit, byte-limit, valid-status, valid-value, ValidSlots, ValidBytes}
 use Rattle.record.specs.Change.{diffs}
 use Rattle.plan.specs.declared.Plan.{Plan}
 use Rattle.bank.specs.Bank.{ssp-of, pc-of, sr-of, mode-of, supervisor, tracing, long, bank, sr-after, mode-after, settle}
 use Rattle.exception.specs.Exceptions.{Stepped, fresh, supervisor-sr, handler, enter, small-ready, exception, big-ready, fault-taken, fault}
 use Rattle.step.specs.declared.Tried.{Tried}
-use Rattle.step.specs.Steps.{conclude, attempt, commit, trap-of, take-trap, traced, both, carry-out, instruction, interrupt-sr, interrupt}
+use Rattle.step.specs.Steps.{sight, conclude, attempt, commit, trap-of, take-trap, traced, both, carry-out, instruction, interrupt-sr, interrupt}
 use Rattle.step.specs.Steps.{one-step}
 use Rattle.step.proofs.PlacesLaws.{each-at, each-set, Touches, touches-none, touches-then, touches-most, writes-of-small-frame}
 use Rattle.step.proofs.PlacesLaws.{writes-of-big-frame, writes-of-commit}
@@ -224,17 +225,17 @@ module _ (s m : List ℕ) (h : ValidBytes m) where
       (touches-of-carry-out (settle s r p) m h r p (tracing (sr-of s)))
       (touches-most (touches-of-fault s m h (p .flow .bad) (t .op)) (omega arith))
 
-  touches-of-instruction : Touches 70 m (instruction s m .m)
+  touches-of-instruction : (win : Window) → Touches 70 m (instruction win s m .m)
   unfolding instruction
-  touches-of-instruction =
-      let a = attempt (bank s) (view-of m) (fresh (pc-of s) (sr-of s)) in touches-of-conclude (a .r) (a .t)
+  touches-of-instruction win =
+      let a = attempt (bank s) (sight win s m) (fresh (pc-of s) (sr-of s)) in touches-of-conclude (a .r) (a .t)
 
-  touches-of-one-step : (level vector : ℕ) → Touches 70 m (one-step s m level vector .m)
+  touches-of-one-step : (win : Window) (level vector : ℕ) → Touches 70 m (one-step win s m level vector .m)
   unfolding one-step interrupt
-  touches-of-one-step level vector =
+  touches-of-one-step win level vector =
       pick-cases (λ (t : Stepped). Touches 70 m (t .m)) (eqb level TopLevel || ltb (sr-of s / Mask % 8) level)
       (touches-most (touches-of-exception s m h vector (interrupt-sr (sr-of s) level)) (omega arith))
-      (pick-cases (λ (t : Stepped). Touches 70 m (t .m)) (eqb (mode-of s) Running) touches-of-instruction (touches-none 70 m h))
+      (pick-cases (λ (t : Stepped). Touches 70 m (t .m)) (eqb (mode-of s) Running) (touches-of-instruction win) (touches-none 70 m h))
 
 -- ---- the theorem
 -- what a step keeps: lengths, the values of a valid state, bytes; and at most byte-limit bytes differ
@@ -245,11 +246,11 @@ pub record Kept (s m t n : List ℕ) : Type 0 where
   pub bytes : ValidBytes n
   pub few : length (diffs 0 m n) ≤ byte-limit
 
-module _ (s m : List ℕ) (level vector : ℕ) (slots : length s ≡ slot-limit) (values : ValidSlots s) (bytes : ValidBytes m) where
-  reached : Touches 70 m (one-step s m level vector .m)
-  reached = touches-of-one-step s m bytes level vector
+module _ (win : Window) (s m : List ℕ) (level vector : ℕ) (slots : length s ≡ slot-limit) (values : ValidSlots s) (bytes : ValidBytes m) where
+  reached : Touches 70 m (one-step win s m level vector .m)
+  reached = touches-of-one-step s m bytes win level vector
 
-  pub one-step-keeps : Kept s m (one-step s m level vector .s) (one-step s m level vector .m)
+  pub one-step-keeps : Kept s m (one-step win s m level vector .s) (one-step win s m level vector .m)
   one-step-keeps =
-      let after = kept-by-one-step Sound sound-keeps s m (record { slots = slots; values = values }) level vector in
+      let after = kept-by-one-step Sound sound-keeps win s m (record { slots = slots; values = values }) level vector in
       record { slots = after .slots ∙ sym slots; memory = reached .same; values = after .values; bytes = reached .bytes; few = reached .few }

@@ -12,13 +12,14 @@ use lib.Dec.{ltb, eqb}
 use Rattle.codes.specs.Codes.{Ssp, Pc, Sr, Mode, Running, Halted, Mask, TopLevel, TraceVector, NoVector, NoWrite}
 use Rattle.bits.specs.Bits.{pick, minus}
 use Rattle.bits.proofs.BitsLaws.{pick-cases}
-use Rattle.bus.specs.Bus.{View, view-of, fault-vector}
+use Rattle.bus.specs.Bus.{View, fault-vector}
+use Rattle.bus.specs.declared.Window.{Window}
 use Rattle.record.specs.Limits.{slot-limit}
 use Rattle.plan.specs.declared.Plan.{Plan}
 use Rattle.bank.specs.Bank.{ssp-of, pc-of, sr-of, mode-of, tracing, bank, settle}
 use Rattle.exception.specs.Exceptions.{Stepped, fresh, supervisor-sr, handler, enter, small-ready, exception, big-ready, fault-taken, fault}
 use Rattle.step.specs.declared.Tried.{Tried}
-use Rattle.step.specs.Steps.{conclude, attempt, commit, trap-of, take-trap, traced, both, carry-out, instruction, interrupt-sr, interrupt}
+use Rattle.step.specs.Steps.{sight, conclude, attempt, commit, trap-of, take-trap, traced, both, carry-out, instruction, interrupt-sr, interrupt}
 use Rattle.step.specs.Steps.{one-step}
 
 pub record Keeps (P : List ℕ → Type 0) : Type 0 where
@@ -67,17 +68,20 @@ module _ (P : List ℕ → Type 0) (keeps : Keeps P) where
         (kept-by-carry-out (settle s r p) m (keeps .settling s r p h) r p (tracing (sr-of s)))
         (kept-by-fault s m h (p .flow .bad) (t .op))
 
-    kept-by-instruction : InSlots (instruction s m)
+    kept-by-instruction : (win : Window) → InSlots (instruction win s m)
     unfolding instruction
-    kept-by-instruction =
-        let a = attempt (bank s) (view-of m) (fresh (pc-of s) (sr-of s)) in kept-by-conclude (a .r) (a .t)
+    kept-by-instruction win =
+        let a = attempt (bank s) (sight win s m) (fresh (pc-of s) (sr-of s)) in kept-by-conclude (a .r) (a .t)
 
-    pub kept-by-one-step : (level vector : ℕ) → InSlots (one-step s m level vector)
+    stepped-keeps : (win : Window) (level vector : ℕ) → InSlots (one-step win s m level vector)
     unfolding one-step interrupt
-    kept-by-one-step level vector =
+    stepped-keeps win level vector =
         pick-cases InSlots (eqb level TopLevel || ltb (sr-of s / Mask % 8) level)
         (kept-by-exception s m h vector (interrupt-sr (sr-of s) level) (λ v. keeps .interrupting s v 6 vector level h))
-        (pick-cases InSlots (eqb (mode-of s) Running) kept-by-instruction h)
+        (pick-cases InSlots (eqb (mode-of s) Running) (kept-by-instruction win) h)
+
+  pub kept-by-one-step : (win : Window) (s m : List ℕ) → P s → (level vector : ℕ) → InSlots (one-step win s m level vector)
+  kept-by-one-step win s m h level vector = stepped-keeps s m h win level vector
 
 -- ---- twenty slots
 abbrev Twenty : List ℕ → Type 0
@@ -107,5 +111,5 @@ twenty-keeps =
       settling = λ s r p h. twenty-of-settle s r p;
     }
 
-pub twenty-of-one-step : (s m : List ℕ) → length s ≡ slot-limit → (level vector : ℕ) → length (one-step s m level vector .s) ≡ slot-limit
-twenty-of-one-step s m h level vector = kept-by-one-step Twenty twenty-keeps s m h level vector
+pub twenty-of-one-step : (win : Window) (s m : List ℕ) → length s ≡ slot-limit → (level vector : ℕ) → length (one-step win s m level vector .s) ≡ slot-limit
+twenty-of-one-step win s m h level vector = kept-by-one-step Twenty twenty-keeps win s m h level vector

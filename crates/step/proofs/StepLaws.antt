@@ -12,7 +12,8 @@ use Rattle.bits.specs.Bits.{bit}
 use Rattle.bits.proofs.BitsLaws.{and-left, and-right}
 use Rattle.bus.specs.declared.Flow.{Flow}
 use Rattle.bus.specs.declared.Fetched.{Fetched}
-use Rattle.bus.specs.Bus.{View, view-of, next-word, room, put-sized}
+use Rattle.bus.specs.Bus.{View, next-word, room, put-sized}
+use Rattle.bus.specs.declared.Window.{Window}
 use Rattle.plan.specs.declared.Plan.{Plan}
 use Rattle.plan.specs.Plans.{Done}
 use Rattle.movem.specs.Movem.{block-room, block-put}
@@ -20,7 +21,7 @@ use Rattle.bank.specs.Bank.{pc-of, sr-of, mode-of, tracing, bank, settle}
 use Rattle.exception.specs.Exceptions.{Stepped, fresh, supervisor-sr, exception, fault}
 use Rattle.execute.specs.Dispatch.{execute, own-clocks}
 use Rattle.step.specs.declared.Tried.{Tried}
-use Rattle.step.specs.Steps.{plan-with-flow, checked, Attempt, attempt, commit, trap-of, take-trap, traced, both, carry-out, conclude}
+use Rattle.step.specs.Steps.{sight, plan-with-flow, checked, Attempt, attempt, commit, trap-of, take-trap, traced, both, carry-out, conclude}
 use Rattle.step.specs.Steps.{instruction, interrupt-sr, interrupt, one-step}
 
 -- a part of an outcome
@@ -175,33 +176,33 @@ module _ (s m r : List ℕ) (t : Tried) where
   conclude-faults h = cc
 
 -- s₁ is the second loan of the slots s
-pub instruction-is : (s s₁ m r₀ r : List ℕ) (f : Flow) (t : Tried) → s₁ ≡ s → r₀ ≡ bank s → f ≡ fresh (pc-of s) (sr-of s)
-    → record { r = r; t = t } ≡ attempt r₀ (view-of m) f → conclude s₁ m r t ≡ instruction s m
+pub instruction-is : (win : Window) (s s₁ m r₀ r : List ℕ) (f : Flow) (t : Tried) → s₁ ≡ s → r₀ ≡ bank s → f ≡ fresh (pc-of s) (sr-of s)
+    → record { r = r; t = t } ≡ attempt r₀ (sight win s m) f → conclude s₁ m r t ≡ instruction win s m
 unfolding instruction
-instruction-is s s₁ m r₀ r f t e0 e1 e2 e3 = cc (ap (λ (a : Attempt). a .r) e3, ap (λ (a : Attempt). a .t) e3)
+instruction-is win s s₁ m r₀ r f t e0 e1 e2 e3 = cc (ap (λ (a : Attempt). a .r) e3, ap (λ (a : Attempt). a .t) e3)
 
-module _ (s m : List ℕ) (level vector : ℕ) where
-  pub interrupt-is : (sr : ℕ) → sr ≡ interrupt-sr (sr-of s) level → exception s m vector sr ≡ interrupt s m level vector
-  unfolding interrupt
-  interrupt-is sr e = cc
+pub interrupt-is : (s m : List ℕ) (level vector sr : ℕ) → sr ≡ interrupt-sr (sr-of s) level → exception s m vector sr ≡ interrupt s m level vector
+unfolding interrupt
+interrupt-is s m level vector sr e = cc
 
-  pub step-interrupted : (eqb level TopLevel || ltb (sr-of s / Mask % 8) level) ≡ true → interrupt s m level vector ≡ one-step s m level vector
+module _ (win : Window) (s m : List ℕ) (level vector : ℕ) where
+  pub step-interrupted : (eqb level TopLevel || ltb (sr-of s / Mask % 8) level) ≡ true → interrupt s m level vector ≡ one-step win s m level vector
   unfolding one-step
   step-interrupted h = cc
 
   module _ (h : (eqb level TopLevel || ltb (sr-of s / Mask % 8) level) ≡ false) where
-    pub step-instruction : eqb (mode-of s) 0 ≡ true → instruction s m ≡ one-step s m level vector
+    pub step-instruction : eqb (mode-of s) 0 ≡ true → instruction win s m ≡ one-step win s m level vector
     unfolding one-step
     step-instruction k = cc
 
-    pub step-stopped-slots : eqb (mode-of s) 0 ≡ false → s ≡ one-step s m level vector .s
+    pub step-stopped-slots : eqb (mode-of s) 0 ≡ false → s ≡ one-step win s m level vector .s
     unfolding one-step
     step-stopped-slots k = cc
 
-    pub step-stopped-memory : eqb (mode-of s) 0 ≡ false → m ≡ one-step s m level vector .m
+    pub step-stopped-memory : eqb (mode-of s) 0 ≡ false → m ≡ one-step win s m level vector .m
     unfolding one-step
     step-stopped-memory k = cc
 
-    pub step-stopped-event : eqb (mode-of s) 0 ≡ false → 0 ≡ one-step s m level vector .event
+    pub step-stopped-event : eqb (mode-of s) 0 ≡ false → 0 ≡ one-step win s m level vector .event
     unfolding one-step
     step-stopped-event k = cc
