@@ -1,12 +1,13 @@
 -- Refusals.antt - the tables of [01 Calls]: for each call the numbers that it can give, in order, and when each applies; a run's reasons.
 -- Not here: what a call gives back (Calls.antt).
--- Laws: proofs/RefusalLaws.antt, proofs/FormedLaws.antt, proofs/RunLaws.antt.  Source: [01 Calls and what they give back], [K5].
+-- Laws: proofs/RefusalLaws.antt, proofs/FormedLaws.antt, proofs/RunLaws.antt.  Source: [01 Calls and what they give back], [K5], [K7].
 use Prim.Native.Nat.{ℕ, _-_, _%_, _<_}
 use mathlib.Core.Path.{_≡_}
 use mathlib.Core.Bool.{false}
 use mathlib.Core.List.{List, [], _∷_}
 use lib.ListN.{length}
 use Rattle.codes.specs.Codes.{Stopped, Halted, LeastMemory, MostMemory, TopLevel, MostSteps}
+use Rattle.bus.specs.declared.Window.{Window}
 use Rattle.bank.specs.Bank.{pc-of, sr-of, mode-of}
 use Rattle.record.specs.Limits.{longest-record, valid-status}
 use Rattle.undo.specs.Undo.{none, well-formed}
@@ -41,6 +42,11 @@ pub data BadState (s : List ℕ) : Type 0 where
   stray-bit : valid-status (sr-of s) ≡ false → BadState s
   no-mode : Halted < mode-of s → BadState s
 
+-- lo is above hi, or hi above the memory's length  [K7]
+pub data BadWindow (win : Window) (m : List ℕ) : Type 0 where
+  turned-round : win .hi < win .lo → BadWindow win m
+  past-memory : length m < win .hi → BadWindow win m
+
 -- a memory that does not fit: refusal 1  [01 Calls, table]
 abbrev pub memory-line : List ℕ → Line
 memory-line m = record { number = 1; applies = BadMemory m }
@@ -48,6 +54,14 @@ memory-line m = record { number = 1; applies = BadMemory m }
 -- a state that does not fit: refusal 2  [01 Calls, table]
 abbrev pub state-line : List ℕ → Line
 state-line s = record { number = 2; applies = BadState s }
+
+-- a window that does not fit: refusal 10  [K7]
+abbrev pub window-line : Window → List ℕ → Line
+window-line win m = record { number = 10; applies = BadWindow win m }
+
+-- the lines of step, run and undo that come first: 1, 2 and 10  [01 Calls, table] [K7]
+abbrev pub first-lines : Window → List ℕ → List ℕ → List Line → List Line
+first-lines win s m ls = memory-line m ∷ state-line s ∷ window-line win m ∷ ls
 
 -- a mark past the journal's end: refusal 4  [01 Calls, table]
 abbrev pub mark-line : List ℕ → ℕ → Line
@@ -72,31 +86,28 @@ when-dropping Keeping l ls = ls
 abbrev pub reset-table : List ℕ → List Line
 reset-table m = memory-line m ∷ []
 
--- step gives 1 to 6, and 8 where it may drop records  [01 Calls, table] [K5]
-abbrev pub step-table : Manner → List ℕ → List ℕ → ℕ → List ℕ → ℕ → List Line
-step-table w s m level j mark =
-    memory-line m
-    ∷ state-line s
-    ∷ record { number = 3; applies = TopLevel < level }
+-- step gives 1, 2, 10 and 3 to 6, and 8 where it may drop records  [01 Calls, table] [K5] [K7]
+abbrev pub step-table : Manner → Window → List ℕ → List ℕ → ℕ → List ℕ → ℕ → List Line
+step-table w win s m level j mark =
+    first-lines win s m
+    (record { number = 3; applies = TopLevel < level }
     ∷ mark-line j mark
     ∷ record { number = 5; applies = NoRoom w j mark }
     ∷ record { number = 6; applies = mode-of s ≡ Halted }
-    ∷ when-dropping w (record { number = 8; applies = TornWay (length m) j mark }) []
+    ∷ when-dropping w (record { number = 8; applies = TornWay (length m) j mark }) [])
 
--- run gives 1 to 4, in either manner  [01 Calls, table]
-abbrev pub run-table : List ℕ → List ℕ → ℕ → List ℕ → ℕ → List Line
-run-table s m budget j mark =
-    memory-line m ∷ state-line s ∷ record { number = 3; applies = MostSteps < budget } ∷ mark-line j mark ∷ []
+-- run gives 1, 2, 10, 3 and 4, in either manner  [01 Calls, table] [K7]
+abbrev pub run-table : Window → List ℕ → List ℕ → ℕ → List ℕ → ℕ → List Line
+run-table win s m budget j mark = first-lines win s m (record { number = 3; applies = MostSteps < budget } ∷ mark-line j mark ∷ [])
 
--- undo gives 1, 2, 4, 7 and 8; what well formed means, clause by clause, is Formed of undo (undo-gives-8)  [01 Calls, table]
-abbrev pub undo-table : List ℕ → List ℕ → List ℕ → ℕ → List Line
-undo-table s m j mark =
-    memory-line m
-    ∷ state-line s
-    ∷ mark-line j mark
+-- undo gives 1, 2, 10, 4, 7 and 8; what well formed means, clause by clause, is Formed of undo (undo-gives-8)  [01 Calls, table] [K7]
+abbrev pub undo-table : Window → List ℕ → List ℕ → List ℕ → ℕ → List Line
+undo-table win s m j mark =
+    first-lines win s m
+    (mark-line j mark
     ∷ record { number = 7; applies = mark ≡ 0 }
     ∷ record { number = 8; applies = well-formed s m j mark ≡ none }
-    ∷ []
+    ∷ [])
 
 -- the reasons that end a run, with n steps done, in the order in which it asks: 6 is asked right after 4  [01 Calls, Run] [K5]
 abbrev pub reasons : Manner → ℕ → ℕ → ℕ → List ℕ → List ℕ → List ℕ → ℕ → List Line

@@ -1,14 +1,18 @@
 // lib.rt - one whole step: an interrupt that is taken, or one instruction, from its operation word to its end; a stopped machine; its clocks.
 // Means: specs/Steps.antt of the crate step, where the laws and the theorems stand; step has the end of an instruction too.
-// Uses: codes, bus, plan, clocks, blocks, touch, bank, exception, execute, step.  Source: [003 4.1], [003 4.4.2], [01 One step], [K2].
+// Uses: codes, bus, reach, plan, clocks, blocks, touch, bank, exception, execute, step.  Source: [003 4.1], [003 4.4.2], [01 One step], [K2], [K7].
 ghost use mathlib.Core.Path.{_≡_};
+ghost use mathlib.Core.List.{map};
 ghost use Prim.Native.Nat.{_≤_, _<_};
 ghost use lib.ListN.{length};
-ghost use Rattle.bus.specs.Bus.{view-of};
+ghost use Rattle.bank.specs.Bank.{supervisor};
+ghost use Rattle.bus.specs.Bus.{seen-by, view-of};
 ghost use Rattle.touch.specs.Touch.{LogOk, Noted};
 ghost use Rattle.step.specs.Steps.{plan-with-flow, checked, attempt, instruction, interrupt-sr, interrupt, one-step};
 ghost use Rattle.step.specs.Steps.{instruction-clocks, interrupt-clocks, step-clocks};
 use bus::Flow;
+use bus::Parts;
+use bus::Window;
 use codes::SLOTS;
 use exception::Ended;
 use plan::Plan;
@@ -28,8 +32,8 @@ fn plan_with_flow(p: Plan, f: Flow) -> Plan
 }
 
 // The plan, with the fault of a write for which there is no room.
-fn checked(mem: &[u8], p: Plan) -> Plan
-    ensures { λ q. ⌜ q ≡ checked (view-of (now (mem .entry))) p ⌝ }
+fn checked(mem: &Parts, p: Plan) -> Plan
+    ensures { λ q. ⌜ q ≡ checked (view-of (map now (now (mem .entry)))) p ⌝ }
 {
     let f = p.flow;
     let none = p.write == codes::NO_WRITE;
@@ -44,8 +48,8 @@ fn checked(mem: &[u8], p: Plan) -> Plan
 }
 
 // An instruction, up to its writes: all that it sees are the registers, PC, SR and the view of memory.
-fn attempt(r: &mut [u32; SLOTS], mem: &[u8], f: Flow) -> Tried
-    ensures { λ t. ⌜ record { r = now (r .exit); t = t } ≡ attempt (now (r .entry)) (view-of (now (mem .entry))) f ⌝ }
+fn attempt(r: &mut [u32; SLOTS], mem: &Parts, f: Flow) -> Tried
+    ensures { λ t. ⌜ record { r = now (r .exit); t = t } ≡ attempt (now (r .entry)) (view-of (map now (now (mem .entry)))) f ⌝ }
     ensures { λ t. ⌜ t .clocks < 512 ⌝ }
 {
     let w = bus::next_word(mem, f);
@@ -60,8 +64,19 @@ fn attempt(r: &mut [u32; SLOTS], mem: &[u8], f: Flow) -> Tried
     }
 }
 
+// The same over all of memory: it is lent what the state may see.
+fn lent_attempt<'a>(r: &mut [u32; SLOTS], win: Window, mem: &'a [u8], f: Flow) -> Tried
+    ensures { λ t. ⌜ record { r = now (r .exit); t = t } ≡ attempt (now (r .entry)) (seen-by (supervisor (f .sr)) win (now (mem .entry))) f ⌝ }
+    ensures { λ t. ⌜ t .clocks < 512 ⌝ }
+{
+    let sup = bank::supervisor(f.sr);
+    let parts = reach::lent(sup, win, mem);
+    attempt(r, &parts, f)
+}
+
 // One instruction. The slots before it are lent a second time, as they were.
 fn instruction(
+    win: Window,
     s: &mut [u32; SLOTS],
     before: &[u32; SLOTS],
     mem: &mut [u8],
@@ -69,16 +84,16 @@ fn instruction(
 ) -> Taken
     requires { ⌜ LogOk (now mem) (now log) 0 × (70 ≤ length (now log)) ⌝ }
     requires { ⌜ now before ≡ now s ⌝ }
-    ensures { λ _. ⌜ now (s .exit) ≡ instruction (now (s .entry)) (now (mem .entry)) .s ⌝ }
-    ensures { λ _. ⌜ now (mem .exit) ≡ instruction (now (s .entry)) (now (mem .entry)) .m ⌝ }
-    ensures { λ e. ⌜ e .event ≡ instruction (now (s .entry)) (now (mem .entry)) .event ⌝ }
-    ensures { λ e. ⌜ e .clocks ≡ instruction-clocks (now (s .entry)) (now (mem .entry)) ⌝ }
+    ensures { λ _. ⌜ now (s .exit) ≡ instruction win (now (s .entry)) (now (mem .entry)) .s ⌝ }
+    ensures { λ _. ⌜ now (mem .exit) ≡ instruction win (now (s .entry)) (now (mem .entry)) .m ⌝ }
+    ensures { λ e. ⌜ e .event ≡ instruction win (now (s .entry)) (now (mem .entry)) .event ⌝ }
+    ensures { λ e. ⌜ e .clocks ≡ instruction-clocks win (now (s .entry)) (now (mem .entry)) ⌝ }
     ensures { λ e. ⌜ Noted (now (mem .entry)) (now (log .entry)) 0 70 (now (mem .exit)) (now (log .exit)) (e .n) ⌝ }
 {
     let sr = s[codes::SR];
     let pc = s[codes::PC];
     bank::bank(s);
-    let t = attempt(s, mem, exception::fresh(pc, sr));
+    let t = lent_attempt(s, win, mem, exception::fresh(pc, sr));
     step::concluded(s, before, mem, log, t)
 }
 
@@ -120,6 +135,7 @@ fn interrupt_clocks(event: u32) -> u32
 // One whole step with its request, the slots before it lent a second time: an interrupt that is taken, or nothing where the machine is
 // stopped, or one instruction.
 pub fn one_step(
+    win: Window,
     s: &mut [u32; SLOTS],
     before: &[u32; SLOTS],
     mem: &mut [u8],
@@ -129,11 +145,11 @@ pub fn one_step(
 ) -> Taken
     requires { ⌜ LogOk (now mem) (now log) 0 × (70 ≤ length (now log)) ⌝ }
     requires { ⌜ now before ≡ now s ⌝ }
-    ensures { λ _. ⌜ now (s .exit) ≡ one-step (now (s .entry)) (now (mem .entry)) level vector .s ⌝ }
-    ensures { λ _. ⌜ now (mem .exit) ≡ one-step (now (s .entry)) (now (mem .entry)) level vector .m ⌝ }
-    ensures { λ e. ⌜ e .event ≡ one-step (now (s .entry)) (now (mem .entry)) level vector .event ⌝ }
+    ensures { λ _. ⌜ now (s .exit) ≡ one-step win (now (s .entry)) (now (mem .entry)) level vector .s ⌝ }
+    ensures { λ _. ⌜ now (mem .exit) ≡ one-step win (now (s .entry)) (now (mem .entry)) level vector .m ⌝ }
+    ensures { λ e. ⌜ e .event ≡ one-step win (now (s .entry)) (now (mem .entry)) level vector .event ⌝ }
     ensures { λ e. ⌜ Noted (now (mem .entry)) (now (log .entry)) 0 70 (now (mem .exit)) (now (log .exit)) (e .n) ⌝ }
-    ensures { λ e. ⌜ e .clocks ≡ step-clocks (now (s .entry)) (now (mem .entry)) level vector ⌝ }
+    ensures { λ e. ⌜ e .clocks ≡ step-clocks win (now (s .entry)) (now (mem .entry)) level vector ⌝ }
 {
     let mask = s[codes::SR] / codes::MASK % 8;
     let taken = (level == codes::TOP_LEVEL) | (mask < level);
@@ -147,7 +163,7 @@ pub fn one_step(
     }
     let running = s[codes::MODE] == codes::RUNNING;
     if running {
-        return instruction(s, before, mem, log);
+        return instruction(win, s, before, mem, log);
     }
     Taken {
         n: 0,

@@ -12,12 +12,12 @@ use Rattle.bits.specs.Bits.{bit}
 use Rattle.bits.proofs.BitsLaws.{and-left, and-right}
 use Rattle.bus.specs.declared.Flow.{Flow}
 use Rattle.bus.specs.declared.Fetched.{Fetched}
-use Rattle.bus.specs.Bus.{View, next-word, room, put-sized}
+use Rattle.bus.specs.Bus.{View, view-of, seen-by, next-word, room, put-sized}
 use Rattle.bus.specs.declared.Window.{Window}
 use Rattle.plan.specs.declared.Plan.{Plan}
 use Rattle.plan.specs.Plans.{Done}
 use Rattle.movem.specs.Movem.{block-room, block-put}
-use Rattle.bank.specs.Bank.{pc-of, sr-of, mode-of, tracing, bank, settle}
+use Rattle.bank.specs.Bank.{pc-of, sr-of, mode-of, supervisor, tracing, bank, settle}
 use Rattle.exception.specs.Exceptions.{Stepped, fresh, supervisor-sr, exception, fault}
 use Rattle.execute.specs.Dispatch.{execute, own-clocks}
 use Rattle.step.specs.declared.Tried.{Tried}
@@ -57,6 +57,12 @@ module _ (r t : List ℕ) (v : View) (f : Flow) (w : Fetched) (p q : Plan) (e : 
       → record { r = t; t = record { op = w .value; p = q; clocks = n } } ≡ attempt r v f
   unfolding attempt
   attempt-is n d c h = cc (ap (λ (o : Done). o .r) d, ap (λ (o : Done). o .p) d)
+
+-- q is what the code lends for the state of f
+pub lent-attempt-is : (win : Window) (m r t : List ℕ) (q : List (List ℕ)) (f : Flow) (b : Bool) (x : Tried) → b ≡ supervisor (f .sr)
+    → view-of q ≡ seen-by b win m → record { r = t; t = x } ≡ attempt r (view-of q) f
+    → record { r = t; t = x } ≡ attempt r (seen-by (supervisor (f .sr)) win m) f
+lent-attempt-is win m r t q f b x e d h = cc
 
 module _ (m r o : List ℕ) (p : Plan) where
   pub commit-one : ltb (p .write) 3 ≡ true → o ≡ put-sized m (p .at) (p .write) (p .value) → o ≡ commit m r p
