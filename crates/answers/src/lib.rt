@@ -1,10 +1,11 @@
 // lib.rt - all of a call that takes no step: the numbers of the refusals, what a reset leaves, undo's answer.
 // Means: specs/Calls.antt of the crate calls.  Laws: proofs/NumberLaws.antt.
-// Uses: codes, bus, record, undo, exception, calls.  Source: [01 Calls and what they give back], [01 The journal], [K5].
+// Uses: codes, bus, record, undo, exception, calls.  Source: [01 Calls and what they give back], [01 The journal], [K5], [K7].
 ghost use mathlib.Core.Path.{_≡_};
 ghost use Prim.Native.Nat.{_≤_};
 ghost use lib.ListN.{length};
-ghost use Rattle.calls.specs.Calls.{memory-fits, state-fits, reset-slots, refused-slots, no-room, step-tests, run-number, undo-number, undo-answer};
+ghost use Rattle.calls.specs.Calls.{memory-fits, state-fits, window-fits, first-tests, reset-slots, refused-slots, no-room, step-tests, run-number, undo-number, undo-answer};
+use bus::Window;
 use calls::Manner;
 use calls::UndoAnswer;
 use codes::SLOTS;
@@ -26,6 +27,32 @@ pub fn state_fits(slots: &[u32; SLOTS]) -> bool
     let mode = slots[codes::MODE];
     let status = record::limits::valid_status(slots[codes::SR]);
     status & (mode <= codes::HALTED)
+}
+
+// Whether a window is one that no call refuses.
+fn window_fits(win: Window, memory: &[u8]) -> bool
+    ensures { λ r. ⌜ r ≡ window-fits win (now (memory .entry)) ⌝ }
+{
+    (win.lo <= win.hi) & (win.hi as usize <= memory.len())
+}
+
+// The number of the refusal that step, run and undo judge first, or 0: 1, 2 or 10.
+pub fn first_number(slots: &[u32; SLOTS], win: Window, memory: &[u8]) -> u32
+    ensures { λ r. ⌜ r ≡ first-tests win (now (slots .entry)) (now (memory .entry)) 0 ⌝ }
+{
+    let fits = memory_fits(memory);
+    if !fits {
+        return 1;
+    }
+    let valid = state_fits(slots);
+    if !valid {
+        return 2;
+    }
+    let within = window_fits(win, memory);
+    if !within {
+        return 10;
+    }
+    0
 }
 
 // SSP from address 0, PC from 4, SR $2700.
@@ -101,20 +128,17 @@ fn no_room(manner: Manner, journal: &[u8], mark: usize) -> bool
 pub fn step_number(
     manner: Manner,
     slots: &[u32; SLOTS],
+    win: Window,
     memory: &[u8],
     level: u32,
     journal: &[u8],
     mark: usize,
 ) -> u32
-    ensures { λ r. ⌜ r ≡ step-tests manner (now (slots .entry)) (now (memory .entry)) level (now (journal .entry)) mark 0 ⌝ }
+    ensures { λ r. ⌜ r ≡ step-tests manner win (now (slots .entry)) (now (memory .entry)) level (now (journal .entry)) mark 0 ⌝ }
 {
-    let fits = memory_fits(memory);
-    if !fits {
-        return 1;
-    }
-    let valid = state_fits(slots);
-    if !valid {
-        return 2;
+    let first = first_number(slots, win, memory);
+    if first != 0 {
+        return first;
     }
     let high = codes::TOP_LEVEL < level;
     if high {
@@ -138,20 +162,17 @@ pub fn step_number(
 // The number of a run's refusal, or 0.
 pub fn run_number(
     slots: &[u32; SLOTS],
+    win: Window,
     memory: &[u8],
     budget: u32,
     journal: &[u8],
     mark: usize,
 ) -> u32
-    ensures { λ r. ⌜ r ≡ run-number (now (slots .entry)) (now (memory .entry)) budget (now (journal .entry)) mark ⌝ }
+    ensures { λ r. ⌜ r ≡ run-number win (now (slots .entry)) (now (memory .entry)) budget (now (journal .entry)) mark ⌝ }
 {
-    let fits = memory_fits(memory);
-    if !fits {
-        return 1;
-    }
-    let valid = state_fits(slots);
-    if !valid {
-        return 2;
+    let first = first_number(slots, win, memory);
+    if first != 0 {
+        return first;
     }
     let high = codes::MOST_STEPS < budget;
     if high {
@@ -165,16 +186,18 @@ pub fn run_number(
 }
 
 // The number of an undo's refusal, or 0: all but 8.
-pub fn undo_number(slots: &[u32; SLOTS], memory: &[u8], journal: &[u8], mark: usize) -> u32
-    ensures { λ r. ⌜ r ≡ undo-number (now (slots .entry)) (now (memory .entry)) (now (journal .entry)) mark ⌝ }
+pub fn undo_number(
+    slots: &[u32; SLOTS],
+    win: Window,
+    memory: &[u8],
+    journal: &[u8],
+    mark: usize,
+) -> u32
+    ensures { λ r. ⌜ r ≡ undo-number win (now (slots .entry)) (now (memory .entry)) (now (journal .entry)) mark ⌝ }
 {
-    let fits = memory_fits(memory);
-    if !fits {
-        return 1;
-    }
-    let valid = state_fits(slots);
-    if !valid {
-        return 2;
+    let first = first_number(slots, win, memory);
+    if first != 0 {
+        return first;
     }
     let past = journal.len() < mark;
     if past {

@@ -1,18 +1,19 @@
 -- Calls.antt - reset, step, run and undo from C: the machine's calls on the slots that the block holds, and refusal 9 before all others.
 -- After a call the block holds the returned state; at 9 nothing is read, judged or altered. Step and run go by a manner, as the machine's.
--- Uses: bits, block, calls.  Laws: proofs/.  Source: [K1], [K2], [K5].
+-- Uses: bits, block, calls.  Laws: proofs/.  Source: [K1], [K2], [K5], [K7].
 use Prim.Native.Nat.{ℕ}
 use mathlib.Core.Bool.{Bool}
 use mathlib.Core.List.{List}
 use lib.ListN.{length}
 use lib.Dec.{eqb}
 use Rattle.bits.specs.Bits.{pick}
+use Rattle.bus.specs.declared.Window.{Window}
 use Rattle.calls.specs.declared.Manner.{Manner}
+use Rattle.calls.specs.declared.ResetAnswer.{ResetAnswer}
 use Rattle.calls.specs.declared.StepAnswer.{StepAnswer}
 use Rattle.calls.specs.declared.RunAnswer.{RunAnswer}
 use Rattle.calls.specs.declared.UndoAnswer.{UndoAnswer}
-use Rattle.calls.specs.Calls.{reset-number, reset-call, step-call, run-call, undo-call}
-use Rattle.block_calls.specs.declared.ResetAnswer.{ResetAnswer}
+use Rattle.calls.specs.Calls.{reset-call, reset-answer, step-call, run-call, undo-call}
 use Rattle.block.specs.Block.{block-length, slots-in, block-of}
 
 -- the refusal of a block of another length  [K1]
@@ -30,12 +31,12 @@ pub record IbzReset : Type 0 where
   pub b : List ℕ
   pub a : ResetAnswer
 
--- the machine's reset, its slots put into the block; at 9 the block stays  [K1]
+-- the machine's reset, its slots put into the block; at 9 the block stays, and the window is none  [K1] [K7]
 unfoldable pub ibz-reset : List ℕ → List ℕ → IbzReset
 ibz-reset b m =
     pick (block-fits b)
-    (record { b = block-of (reset-call m); a = record { number = reset-number m } })
-    (record { b = b; a = record { number = no-block } })
+    (record { b = block-of (reset-call m); a = reset-answer m })
+    (record { b = b; a = record { number = no-block; lo = 0; hi = 0 } })
 
 -- ---- step, run and undo
 
@@ -65,17 +66,17 @@ run-refusal mark n = record { number = n; reason = 0; mark = mark; steps = 0; cl
 abbrev pub undo-refusal : ℕ → ℕ → UndoAnswer
 undo-refusal mark n = record { number = n; mark = mark }
 
--- the machine's step on the slots that the block holds, in either manner  [K1] [K5]
-unfoldable pub ibz-step : Manner → List ℕ → List ℕ → ℕ → ℕ → List ℕ → ℕ → OnBlock StepAnswer
-ibz-step w b m level vector j mark =
-    let c = step-call w (slots-in b) m level vector j mark in on-block b m j (step-refusal mark) (c .s) (c .m) (c .j) (c .a)
+-- the machine's step on the slots that the block holds, in either manner  [K1] [K5] [K7]
+unfoldable pub ibz-step : Manner → List ℕ → Window → List ℕ → ℕ → ℕ → List ℕ → ℕ → OnBlock StepAnswer
+ibz-step w b win m level vector j mark =
+    let c = step-call w win (slots-in b) m level vector j mark in on-block b m j (step-refusal mark) (c .s) (c .m) (c .j) (c .a)
 
--- the machine's run on them, in either manner  [K1] [K5]
-unfoldable pub ibz-run : Manner → List ℕ → List ℕ → ℕ → ℕ → List ℕ → ℕ → OnBlock RunAnswer
-ibz-run w b m budget stop j mark =
-    let c = run-call w (slots-in b) m budget stop j mark in on-block b m j (run-refusal mark) (c .s) (c .m) (c .j) (c .a)
+-- the machine's run on them, in either manner  [K1] [K5] [K7]
+unfoldable pub ibz-run : Manner → List ℕ → Window → List ℕ → ℕ → ℕ → List ℕ → ℕ → OnBlock RunAnswer
+ibz-run w b win m budget stop j mark =
+    let c = run-call w win (slots-in b) m budget stop j mark in on-block b m j (run-refusal mark) (c .s) (c .m) (c .j) (c .a)
 
--- the machine's undo on them; it only reads the journal  [K1]
-unfoldable pub ibz-undo : List ℕ → List ℕ → List ℕ → ℕ → OnBlock UndoAnswer
-ibz-undo b m j mark =
-    let c = undo-call (slots-in b) m j mark in on-block b m j (undo-refusal mark) (c .s) (c .m) j (c .a)
+-- the machine's undo on them; it only reads the journal  [K1] [K7]
+unfoldable pub ibz-undo : List ℕ → Window → List ℕ → List ℕ → ℕ → OnBlock UndoAnswer
+ibz-undo b win m j mark =
+    let c = undo-call win (slots-in b) m j mark in on-block b m j (undo-refusal mark) (c .s) (c .m) j (c .a)

@@ -1,10 +1,11 @@
 -- Refusals.antt - the tables of refusals of the calls from C: 9 before the lines of 01's tables, at the slots that the block holds.
 -- Not here: what a call gives back (Calls.antt), 01's tables (Refusals.antt of the crate calls).
--- Laws: proofs/RefusalLaws.antt.  Source: [K1], [K5].
+-- Laws: proofs/RefusalLaws.antt.  Source: [K1], [K5], [K7].
 use Prim.Native.Nat.{ℕ}
 use mathlib.Core.Path.{_≡_}
 use mathlib.Core.List.{List, _∷_}
 use lib.ListN.{length}
+use Rattle.bus.specs.declared.Window.{Window}
 use Rattle.calls.specs.declared.Manner.{Manner}
 use Rattle.calls.specs.Refusals.{Line, reset-table, step-table, run-table, undo-table}
 use Rattle.block.specs.Block.{block-length, slots-in}
@@ -18,14 +19,14 @@ block-line b = record { number = no-block; applies = length b ≡ block-length �
 abbrev pub ibz-reset-table : List ℕ → List ℕ → List Line
 ibz-reset-table b m = block-line b ∷ reset-table m
 
--- step gives 9, 1 to 6, and 8 where it may drop records  [K1] [K5]
-abbrev pub ibz-step-table : Manner → List ℕ → List ℕ → ℕ → List ℕ → ℕ → List Line
-ibz-step-table w b m level j mark = block-line b ∷ step-table w (slots-in b) m level j mark
+-- step gives 9, 1, 2, 10, 3 to 6, and 8 where it may drop records  [K1] [K5] [K7]
+abbrev pub ibz-step-table : Manner → List ℕ → Window → List ℕ → ℕ → List ℕ → ℕ → List Line
+ibz-step-table w b win m level j mark = block-line b ∷ step-table w win (slots-in b) m level j mark
 
--- run gives 9 and 1 to 4, in either manner  [K1]
-abbrev pub ibz-run-table : List ℕ → List ℕ → ℕ → List ℕ → ℕ → List Line
-ibz-run-table b m budget j mark = block-line b ∷ run-table (slots-in b) m budget j mark
+-- run gives 9, 1, 2, 10, 3 and 4, in either manner  [K1] [K7]
+abbrev pub ibz-run-table : List ℕ → Window → List ℕ → ℕ → List ℕ → ℕ → List Line
+ibz-run-table b win m budget j mark = block-line b ∷ run-table win (slots-in b) m budget j mark
 
--- undo gives 9, 1, 2, 4, 7 and 8  [K1]
-abbrev pub ibz-undo-table : List ℕ → List ℕ → List ℕ → ℕ → List Line
-ibz-undo-table b m j mark = block-line b ∷ undo-table (slots-in b) m j mark
+-- undo gives 9, 1, 2, 10, 4, 7 and 8  [K1] [K7]
+abbrev pub ibz-undo-table : List ℕ → Window → List ℕ → List ℕ → ℕ → List Line
+ibz-undo-table b win m j mark = block-line b ∷ undo-table win (slots-in b) m j mark

@@ -1,9 +1,3 @@
 // lib.rt - the calls on a block of 80 bytes: what they are, which refusals they give and what is proved of them. The code is ibezofanle's.
 // Means: specs/. The theorems: proofs/.
-// Uses: bits, record, calls, block.  Source: [K1], [K2].
-
-// A reset's answer: the refusal's number or 0. A struct, as the other answers are, so that new members can go to its end.
-#[repr(C)]
-pub struct ResetAnswer {
-    pub number: u32,
-}
+// Uses: bits, record, calls, block.  Source: [K1], [K2], [K7].

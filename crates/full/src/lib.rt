@@ -1,7 +1,7 @@
 // lib.rt - the steps of a run that has found its journal full: where room is short the fewest oldest records are dropped. All records are
 // read once, at the start, and then again only when they are about to be dropped; and the journal is turned instead of moved.
 // Means: running of the crate calls at Dropping; specs/Full.antt.  Laws: proofs/MadeLaws.antt, proofs/FullLaws.antt.
-// Uses: codes, record, oldest, turned, starts, held, step, calls, taken.  Source: [K5].
+// Uses: codes, bus, record, oldest, turned, starts, held, step, calls, taken.  Source: [K5], [K7].
 ghost use mathlib.Core.Path.{_≡_};
 ghost use mathlib.Core.Bool.{true, false};
 ghost use Prim.Native.Nat.{_+_, _-_, _*_, _≤_, _<_, _^_};
@@ -17,6 +17,7 @@ ghost use Rattle.held.specs.Held.{Turn};
 ghost use Rattle.calls.specs.declared.Manner.the-variants.{Dropping};
 ghost use Rattle.calls.specs.Calls.{memory-fits, state-fits, running};
 ghost use Rattle.full.specs.Full.{MadeIs};
+use bus::Window;
 use calls::RunAnswer;
 use codes::SLOTS;
 use record::limits::LONGEST_RECORD;
@@ -79,6 +80,7 @@ fn room_known(
 // since the journal is long enough and all its records are well shaped.
 fn running_known(
     slots: &mut [u32; SLOTS],
+    win: Window,
     memory: &mut [u8],
     budget: u32,
     stop: u32,
@@ -95,10 +97,10 @@ fn running_known(
     requires { ⌜ (memory-fits (now memory) ≡ true) × (mark ≤ length (now journal)) × (byte-limit ≤ length (now log)) × (state-fits (now slots) ≡ true) × (longest-record ≤ length (now journal)) ⌝ }
     requires { ⌜ (budget ≤ MostSteps) × (done ≤ budget) × (clocks ≤ most-clocks * done) ⌝ }
     requires { ⌜ (h ≤ length (now journal)) × (0 < spread) × (0 < length (now posts)) × (0 < length (now near)) × Known (length (now memory)) (now journal) mark (now posts) (now near) (length (now near)) 0 ⌝ }
-    ensures { λ _. ⌜ now (slots .exit) ≡ running Dropping (budget - done) done clocks 0 0 stop (now (slots .entry)) (now (memory .entry)) (now (journal .entry)) mark .s ⌝ }
-    ensures { λ _. ⌜ now (memory .exit) ≡ running Dropping (budget - done) done clocks 0 0 stop (now (slots .entry)) (now (memory .entry)) (now (journal .entry)) mark .m ⌝ }
-    ensures { λ _. ⌜ now (journal .exit) ≡ running Dropping (budget - done) done clocks 0 0 stop (now (slots .entry)) (now (memory .entry)) (now (journal .entry)) mark .j ⌝ }
-    ensures { λ a. ⌜ a ≡ running Dropping (budget - done) done clocks 0 0 stop (now (slots .entry)) (now (memory .entry)) (now (journal .entry)) mark .a ⌝ }
+    ensures { λ _. ⌜ now (slots .exit) ≡ running Dropping win (budget - done) done clocks 0 0 stop (now (slots .entry)) (now (memory .entry)) (now (journal .entry)) mark .s ⌝ }
+    ensures { λ _. ⌜ now (memory .exit) ≡ running Dropping win (budget - done) done clocks 0 0 stop (now (slots .entry)) (now (memory .entry)) (now (journal .entry)) mark .m ⌝ }
+    ensures { λ _. ⌜ now (journal .exit) ≡ running Dropping win (budget - done) done clocks 0 0 stop (now (slots .entry)) (now (memory .entry)) (now (journal .entry)) mark .j ⌝ }
+    ensures { λ a. ⌜ a ≡ running Dropping win (budget - done) done clocks 0 0 stop (now (slots .entry)) (now (memory .entry)) (now (journal .entry)) mark .a ⌝ }
 {
     let size = taken::twenty(slots);
     let long = taken::bytes(memory);
@@ -130,7 +132,7 @@ fn running_known(
         }
         let r = room_known(journal, m, len, b, h, base, spread, posts, near, i);
         starts::posts::note_post(posts, spread, r.base + r.mark);
-        let a = taken::step_taken(slots, memory, 0, 0, journal, r.mark, log);
+        let a = taken::step_taken(slots, win, memory, 0, 0, journal, r.mark, log);
         m = a.mark;
         b = r.b;
         i = r.i;
@@ -165,6 +167,7 @@ fn turnable(size: usize) -> usize
 // What is left of a run that has found room short, done steps of so many clocks before it: the way back is judged, and it goes on.
 pub fn running_full(
     slots: &mut [u32; SLOTS],
+    win: Window,
     memory: &mut [u8],
     budget: u32,
     stop: u32,
@@ -177,10 +180,10 @@ pub fn running_full(
     requires { ⌜ (memory-fits (now memory) ≡ true) × (mark ≤ length (now journal)) × (byte-limit ≤ length (now log)) × (state-fits (now slots) ≡ true) × (longest-record ≤ length (now journal)) ⌝ }
     requires { ⌜ (budget ≤ MostSteps) × (clocks ≤ most-clocks * done) ⌝ }
     requires { ⌜ (done < budget) × (eqb (mode-of (now slots)) 2 ≡ false) × (eqb (mode-of (now slots)) 1 ≡ false) × (length (now journal) - mark < longest-record) ⌝ }
-    ensures { λ _. ⌜ now (slots .exit) ≡ running Dropping (budget - done) done clocks 0 0 stop (now (slots .entry)) (now (memory .entry)) (now (journal .entry)) mark .s ⌝ }
-    ensures { λ _. ⌜ now (memory .exit) ≡ running Dropping (budget - done) done clocks 0 0 stop (now (slots .entry)) (now (memory .entry)) (now (journal .entry)) mark .m ⌝ }
-    ensures { λ _. ⌜ now (journal .exit) ≡ running Dropping (budget - done) done clocks 0 0 stop (now (slots .entry)) (now (memory .entry)) (now (journal .entry)) mark .j ⌝ }
-    ensures { λ a. ⌜ a ≡ running Dropping (budget - done) done clocks 0 0 stop (now (slots .entry)) (now (memory .entry)) (now (journal .entry)) mark .a ⌝ }
+    ensures { λ _. ⌜ now (slots .exit) ≡ running Dropping win (budget - done) done clocks 0 0 stop (now (slots .entry)) (now (memory .entry)) (now (journal .entry)) mark .s ⌝ }
+    ensures { λ _. ⌜ now (memory .exit) ≡ running Dropping win (budget - done) done clocks 0 0 stop (now (slots .entry)) (now (memory .entry)) (now (journal .entry)) mark .m ⌝ }
+    ensures { λ _. ⌜ now (journal .exit) ≡ running Dropping win (budget - done) done clocks 0 0 stop (now (slots .entry)) (now (memory .entry)) (now (journal .entry)) mark .j ⌝ }
+    ensures { λ a. ⌜ a ≡ running Dropping win (budget - done) done clocks 0 0 stop (now (slots .entry)) (now (memory .entry)) (now (journal .entry)) mark .a ⌝ }
 {
     let len = memory.len();
     // The longest record more than needed for so many posts, so that hardly an entry is without a start.
@@ -192,6 +195,7 @@ pub fn running_full(
         let h = turnable(journal.len());
         return running_known(
             slots,
+            win,
             memory,
             budget,
             stop,

@@ -1,10 +1,11 @@
 // lib.rt - the calls from C: reset, step and run in both manners, undo, with the state in a lent block of 80 bytes. No call has a `requires`.
 // Means: Calls and Promises of the crate block_calls, where the laws and the theorems stand.
-// Uses: block, calls, block_calls, keeping, machine.  Declared for C in c/ibezofanle.h.  Source: [K1], [K2], [K5].
+// Uses: bus, block, calls, block_calls, keeping, machine.  Declared for C in c/ibezofanle.h.  Source: [K1], [K2], [K5], [K7].
 ghost use Rattle.calls.specs.declared.Manner.the-variants.{Dropping, Keeping};
 ghost use Rattle.block_calls.specs.Promises.{IbzResetPromise, IbzStepPromise, IbzRunPromise, IbzUndoPromise};
 use block::BLOCK_LENGTH;
-use block_calls::ResetAnswer;
+use bus::Window;
+use calls::ResetAnswer;
 use calls::RunAnswer;
 use calls::StepAnswer;
 use calls::UndoAnswer;
@@ -19,12 +20,16 @@ pub extern "C" fn ibz_reset(block: &mut [u8], memory: &[u8]) -> ResetAnswer
     ensures { λ a. ⌜ IbzResetPromise (now (block .entry)) (now (memory .entry)) (now (block .exit)) a ⌝ }
 {
     if block.len() != BLOCK_LENGTH {
-        return ResetAnswer { number: NO_BLOCK };
+        return ResetAnswer {
+            number: NO_BLOCK,
+            lo: 0,
+            hi: 0,
+        };
     }
     let mut slots = block::slots_in(block);
-    let number = machine::reset(&mut slots, memory);
+    let a = machine::reset(&mut slots, memory);
     block::put_block(block, &slots);
-    ResetAnswer { number }
+    a
 }
 
 // ---- step and run that drop the oldest records where the journal is full
@@ -32,13 +37,15 @@ pub extern "C" fn ibz_reset(block: &mut [u8], memory: &[u8]) -> ResetAnswer
 #[no_mangle]
 pub extern "C" fn ibz_step(
     block: &mut [u8],
+    lo: u32,
+    hi: u32,
     memory: &mut [u8],
     level: u32,
     vector: u8,
     journal: &mut [u8],
     mark: usize,
 ) -> StepAnswer
-    ensures { λ a. ⌜ IbzStepPromise Dropping (now (block .entry)) (now (memory .entry)) level vector (now (journal .entry)) mark (now (block .exit)) (now (memory .exit)) (now (journal .exit)) a ⌝ }
+    ensures { λ a. ⌜ IbzStepPromise Dropping (now (block .entry)) (record { lo = lo; hi = hi }) (now (memory .entry)) level vector (now (journal .entry)) mark (now (block .exit)) (now (memory .exit)) (now (journal .exit)) a ⌝ }
 {
     if block.len() != BLOCK_LENGTH {
         return StepAnswer {
@@ -51,7 +58,7 @@ pub extern "C" fn ibz_step(
         };
     }
     let mut slots = block::slots_in(block);
-    let a = machine::step(&mut slots, memory, level, vector, journal, mark);
+    let a = machine::step(&mut slots, Window { lo, hi }, memory, level, vector, journal, mark);
     block::put_block(block, &slots);
     a
 }
@@ -59,13 +66,15 @@ pub extern "C" fn ibz_step(
 #[no_mangle]
 pub extern "C" fn ibz_run(
     block: &mut [u8],
+    lo: u32,
+    hi: u32,
     memory: &mut [u8],
     budget: u32,
     stop: u32,
     journal: &mut [u8],
     mark: usize,
 ) -> RunAnswer
-    ensures { λ a. ⌜ IbzRunPromise Dropping (now (block .entry)) (now (memory .entry)) budget stop (now (journal .entry)) mark (now (block .exit)) (now (memory .exit)) (now (journal .exit)) a ⌝ }
+    ensures { λ a. ⌜ IbzRunPromise Dropping (now (block .entry)) (record { lo = lo; hi = hi }) (now (memory .entry)) budget stop (now (journal .entry)) mark (now (block .exit)) (now (memory .exit)) (now (journal .exit)) a ⌝ }
 {
     if block.len() != BLOCK_LENGTH {
         return RunAnswer {
@@ -79,7 +88,7 @@ pub extern "C" fn ibz_run(
         };
     }
     let mut slots = block::slots_in(block);
-    let a = machine::run(&mut slots, memory, budget, stop, journal, mark);
+    let a = machine::run(&mut slots, Window { lo, hi }, memory, budget, stop, journal, mark);
     block::put_block(block, &slots);
     a
 }
@@ -89,13 +98,15 @@ pub extern "C" fn ibz_run(
 #[no_mangle]
 pub extern "C" fn ibz_step_keeping(
     block: &mut [u8],
+    lo: u32,
+    hi: u32,
     memory: &mut [u8],
     level: u32,
     vector: u8,
     journal: &mut [u8],
     mark: usize,
 ) -> StepAnswer
-    ensures { λ a. ⌜ IbzStepPromise Keeping (now (block .entry)) (now (memory .entry)) level vector (now (journal .entry)) mark (now (block .exit)) (now (memory .exit)) (now (journal .exit)) a ⌝ }
+    ensures { λ a. ⌜ IbzStepPromise Keeping (now (block .entry)) (record { lo = lo; hi = hi }) (now (memory .entry)) level vector (now (journal .entry)) mark (now (block .exit)) (now (memory .exit)) (now (journal .exit)) a ⌝ }
 {
     if block.len() != BLOCK_LENGTH {
         return StepAnswer {
@@ -108,7 +119,7 @@ pub extern "C" fn ibz_step_keeping(
         };
     }
     let mut slots = block::slots_in(block);
-    let a = keeping::step_keeping(&mut slots, memory, level, vector, journal, mark);
+    let a = keeping::step_keeping(&mut slots, Window { lo, hi }, memory, level, vector, journal, mark);
     block::put_block(block, &slots);
     a
 }
@@ -116,13 +127,15 @@ pub extern "C" fn ibz_step_keeping(
 #[no_mangle]
 pub extern "C" fn ibz_run_keeping(
     block: &mut [u8],
+    lo: u32,
+    hi: u32,
     memory: &mut [u8],
     budget: u32,
     stop: u32,
     journal: &mut [u8],
     mark: usize,
 ) -> RunAnswer
-    ensures { λ a. ⌜ IbzRunPromise Keeping (now (block .entry)) (now (memory .entry)) budget stop (now (journal .entry)) mark (now (block .exit)) (now (memory .exit)) (now (journal .exit)) a ⌝ }
+    ensures { λ a. ⌜ IbzRunPromise Keeping (now (block .entry)) (record { lo = lo; hi = hi }) (now (memory .entry)) budget stop (now (journal .entry)) mark (now (block .exit)) (now (memory .exit)) (now (journal .exit)) a ⌝ }
 {
     if block.len() != BLOCK_LENGTH {
         return RunAnswer {
@@ -136,7 +149,7 @@ pub extern "C" fn ibz_run_keeping(
         };
     }
     let mut slots = block::slots_in(block);
-    let a = keeping::run_keeping(&mut slots, memory, budget, stop, journal, mark);
+    let a = keeping::run_keeping(&mut slots, Window { lo, hi }, memory, budget, stop, journal, mark);
     block::put_block(block, &slots);
     a
 }
@@ -146,11 +159,13 @@ pub extern "C" fn ibz_run_keeping(
 #[no_mangle]
 pub extern "C" fn ibz_undo(
     block: &mut [u8],
+    lo: u32,
+    hi: u32,
     memory: &mut [u8],
     journal: &[u8],
     mark: usize,
 ) -> UndoAnswer
-    ensures { λ a. ⌜ IbzUndoPromise (now (block .entry)) (now (memory .entry)) (now (journal .entry)) mark (now (block .exit)) (now (memory .exit)) a ⌝ }
+    ensures { λ a. ⌜ IbzUndoPromise (now (block .entry)) (record { lo = lo; hi = hi }) (now (memory .entry)) (now (journal .entry)) mark (now (block .exit)) (now (memory .exit)) a ⌝ }
 {
     if block.len() != BLOCK_LENGTH {
         return UndoAnswer {
@@ -159,7 +174,7 @@ pub extern "C" fn ibz_undo(
         };
     }
     let mut slots = block::slots_in(block);
-    let a = machine::undo(&mut slots, memory, journal, mark);
+    let a = machine::undo(&mut slots, Window { lo, hi }, memory, journal, mark);
     block::put_block(block, &slots);
     a
 }

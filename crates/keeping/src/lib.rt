@@ -1,6 +1,6 @@
 // lib.rt - step and run in the manner that keeps all records: where the journal is full no step is taken. No call has a `requires`.
 // Means: Calls and Promises of the crate calls at Keeping, where the theorems stand.  Laws: proofs/CallLaws.antt, proofs/LoopLaws.antt.
-// Uses: codes, bits, record, calls, answers, taken.  Source: [01 Calls and what they give back], [01 The journal], [K2], [K5].
+// Uses: codes, bits, bus, record, calls, answers, taken.  Source: [01 Calls and what they give back], [01 The journal], [K2], [K5], [K7].
 ghost use mathlib.Core.Path.{_≡_};
 ghost use mathlib.Core.Bool.{true};
 ghost use Prim.Native.Nat.{_≤_};
@@ -11,6 +11,7 @@ ghost use Rattle.calls.specs.Calls.{memory-fits, state-fits, running};
 ghost use Rattle.keeping.specs.Loop.{Ends};
 ghost use Rattle.calls.specs.declared.Manner.the-variants.{Keeping};
 ghost use Rattle.calls.specs.Promises.{StepPromise, RunPromise};
+use bus::Window;
 use calls::Manner;
 use calls::RunAnswer;
 use calls::StepAnswer;
@@ -23,20 +24,22 @@ pub const NO_CLOCKS: u32 = 0;
 
 pub fn step_keeping(
     slots: &mut [u32; SLOTS],
+    win: Window,
     memory: &mut [u8],
     level: u32,
     vector: u8,
     journal: &mut [u8],
     mark: usize,
 ) -> StepAnswer
-    ensures { λ a. ⌜ StepPromise Keeping (now (slots .entry)) (now (memory .entry)) level vector (now (journal .entry)) mark (now (slots .exit)) (now (memory .exit)) (now (journal .exit)) a ⌝ }
+    ensures { λ a. ⌜ StepPromise Keeping win (now (slots .entry)) (now (memory .entry)) level vector (now (journal .entry)) mark (now (slots .exit)) (now (memory .exit)) (now (journal .exit)) a ⌝ }
 {
-    let number = answers::step_number(Manner::Keeping, slots, memory, level, journal, mark);
+    let number = answers::step_number(Manner::Keeping, slots, win, memory, level, journal, mark);
     let good = number == 0;
     if good {
         let mut log = [0u64; BYTE_LIMIT];
         return taken::step_taken(
             slots,
+            win,
             memory,
             level,
             bits::wide(vector),
@@ -59,6 +62,7 @@ pub fn step_keeping(
 // A run that drops records begins with it too (crate machine).
 pub fn running(
     slots: &mut [u32; SLOTS],
+    win: Window,
     memory: &mut [u8],
     budget: u32,
     stop: u32,
@@ -67,10 +71,10 @@ pub fn running(
     log: &mut [u64],
 ) -> RunAnswer
     requires { ⌜ (memory-fits (now memory) ≡ true) × (mark ≤ length (now journal)) × (byte-limit ≤ length (now log)) × (state-fits (now slots) ≡ true) × (budget ≤ MostSteps) ⌝ }
-    ensures { λ _. ⌜ now (slots .exit) ≡ running Keeping budget 0 0 0 0 stop (now (slots .entry)) (now (memory .entry)) (now (journal .entry)) mark .s ⌝ }
-    ensures { λ _. ⌜ now (memory .exit) ≡ running Keeping budget 0 0 0 0 stop (now (slots .entry)) (now (memory .entry)) (now (journal .entry)) mark .m ⌝ }
-    ensures { λ _. ⌜ now (journal .exit) ≡ running Keeping budget 0 0 0 0 stop (now (slots .entry)) (now (memory .entry)) (now (journal .entry)) mark .j ⌝ }
-    ensures { λ a. ⌜ a ≡ running Keeping budget 0 0 0 0 stop (now (slots .entry)) (now (memory .entry)) (now (journal .entry)) mark .a ⌝ }
+    ensures { λ _. ⌜ now (slots .exit) ≡ running Keeping win budget 0 0 0 0 stop (now (slots .entry)) (now (memory .entry)) (now (journal .entry)) mark .s ⌝ }
+    ensures { λ _. ⌜ now (memory .exit) ≡ running Keeping win budget 0 0 0 0 stop (now (slots .entry)) (now (memory .entry)) (now (journal .entry)) mark .m ⌝ }
+    ensures { λ _. ⌜ now (journal .exit) ≡ running Keeping win budget 0 0 0 0 stop (now (slots .entry)) (now (memory .entry)) (now (journal .entry)) mark .j ⌝ }
+    ensures { λ a. ⌜ a ≡ running Keeping win budget 0 0 0 0 stop (now (slots .entry)) (now (memory .entry)) (now (journal .entry)) mark .a ⌝ }
     ensures { λ a. ⌜ Ends budget (now (slots .exit)) (now (memory .entry)) (now (memory .exit)) (now (journal .entry)) (now (journal .exit)) (now (log .entry)) (now (log .exit)) a ⌝ }
 {
     let mut n: u32 = 0;
@@ -97,7 +101,7 @@ pub fn running(
         if there {
             break 5;
         }
-        let a = taken::step_taken(slots, memory, 0, 0, journal, m, log);
+        let a = taken::step_taken(slots, win, memory, 0, 0, journal, m, log);
         m = a.mark;
         n += 1;
         c += a.clocks;
@@ -115,19 +119,20 @@ pub fn running(
 
 pub fn run_keeping(
     slots: &mut [u32; SLOTS],
+    win: Window,
     memory: &mut [u8],
     budget: u32,
     stop: u32,
     journal: &mut [u8],
     mark: usize,
 ) -> RunAnswer
-    ensures { λ a. ⌜ RunPromise Keeping (now (slots .entry)) (now (memory .entry)) budget stop (now (journal .entry)) mark (now (slots .exit)) (now (memory .exit)) (now (journal .exit)) a ⌝ }
+    ensures { λ a. ⌜ RunPromise Keeping win (now (slots .entry)) (now (memory .entry)) budget stop (now (journal .entry)) mark (now (slots .exit)) (now (memory .exit)) (now (journal .exit)) a ⌝ }
 {
-    let number = answers::run_number(slots, memory, budget, journal, mark);
+    let number = answers::run_number(slots, win, memory, budget, journal, mark);
     let good = number == 0;
     if good {
         let mut log = [0u64; BYTE_LIMIT];
-        return running(slots, memory, budget, stop, journal, mark, &mut log);
+        return running(slots, win, memory, budget, stop, journal, mark, &mut log);
     }
     RunAnswer {
         number,

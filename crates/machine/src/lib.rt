@@ -1,10 +1,12 @@
 // lib.rt - the calls of the machine: reset, step, run and undo, with their refusals. No call has a `requires`. Where the journal is full,
 // step and run drop its oldest records; those that keep all of them are step_keeping and run_keeping of the crate keeping.
 // Means: Calls and Promises of the crate calls, step and run at Dropping.  Laws: proofs/CallLaws.antt, proofs/FirstLaws.antt.
-// Uses: codes, bits, record, undo, oldest, calls, answers, taken, keeping, full.  Source: [01 Calls and what they give back], [K2], [K5].
+// Uses: codes, bits, bus, record, undo, oldest, calls, answers, taken, keeping, full.  Source: [01 Calls and what they give back], [K2], [K5], [K7].
 ghost use Rattle.calls.specs.declared.Manner.the-variants.{Dropping};
 ghost use Rattle.calls.specs.Promises.{ResetPromise, StepPromise, RunPromise, UndoPromise};
+use bus::Window;
 use calls::Manner;
+use calls::ResetAnswer;
 use calls::RunAnswer;
 use calls::StepAnswer;
 use calls::UndoAnswer;
@@ -13,33 +15,42 @@ use keeping::NO_CLOCKS;
 use record::limits::BYTE_LIMIT;
 use record::limits::LONGEST_RECORD;
 
-// Reset. It does not write memory.
-pub fn reset(slots: &mut [u32; SLOTS], memory: &[u8]) -> u32
-    ensures { λ n. ⌜ ResetPromise (now (memory .entry)) (now (slots .exit)) n ⌝ }
+// Reset. It does not write memory. The window that it gives is all of memory.
+pub fn reset(slots: &mut [u32; SLOTS], memory: &[u8]) -> ResetAnswer
+    ensures { λ a. ⌜ ResetPromise (now (memory .entry)) (now (slots .exit)) a ⌝ }
 {
     let fits = answers::memory_fits(memory);
     if fits {
         let n = answers::reset_slots(memory);
         *slots = n;
-        return 0;
+        return ResetAnswer {
+            number: 0,
+            lo: 0,
+            hi: memory.len() as u32,
+        };
     }
     let n = answers::refused_slots();
     *slots = n;
-    1
+    ResetAnswer {
+        number: 1,
+        lo: 0,
+        hi: 0,
+    }
 }
 
 // A step, after the room that it needs is there or made.
 pub fn step(
     slots: &mut [u32; SLOTS],
+    win: Window,
     memory: &mut [u8],
     level: u32,
     vector: u8,
     journal: &mut [u8],
     mark: usize,
 ) -> StepAnswer
-    ensures { λ a. ⌜ StepPromise Dropping (now (slots .entry)) (now (memory .entry)) level vector (now (journal .entry)) mark (now (slots .exit)) (now (memory .exit)) (now (journal .exit)) a ⌝ }
+    ensures { λ a. ⌜ StepPromise Dropping win (now (slots .entry)) (now (memory .entry)) level vector (now (journal .entry)) mark (now (slots .exit)) (now (memory .exit)) (now (journal .exit)) a ⌝ }
 {
-    let number = answers::step_number(Manner::Dropping, slots, memory, level, journal, mark);
+    let number = answers::step_number(Manner::Dropping, slots, win, memory, level, journal, mark);
     let good = number == 0;
     if good {
         let size = taken::bytes(journal);
@@ -58,6 +69,7 @@ pub fn step(
         let mut log = [0u64; BYTE_LIMIT];
         let a = taken::step_taken(
             slots,
+            win,
             memory,
             level,
             bits::wide(vector),
@@ -87,23 +99,25 @@ pub fn step(
 // A run: its steps as where all records are kept, until room is short; from there on the oldest records are dropped.
 pub fn run(
     slots: &mut [u32; SLOTS],
+    win: Window,
     memory: &mut [u8],
     budget: u32,
     stop: u32,
     journal: &mut [u8],
     mark: usize,
 ) -> RunAnswer
-    ensures { λ a. ⌜ RunPromise Dropping (now (slots .entry)) (now (memory .entry)) budget stop (now (journal .entry)) mark (now (slots .exit)) (now (memory .exit)) (now (journal .exit)) a ⌝ }
+    ensures { λ a. ⌜ RunPromise Dropping win (now (slots .entry)) (now (memory .entry)) budget stop (now (journal .entry)) mark (now (slots .exit)) (now (memory .exit)) (now (journal .exit)) a ⌝ }
 {
-    let number = answers::run_number(slots, memory, budget, journal, mark);
+    let number = answers::run_number(slots, win, memory, budget, journal, mark);
     let good = number == 0;
     if good {
         let mut log = [0u64; BYTE_LIMIT];
-        let a = keeping::running(slots, memory, budget, stop, journal, mark, &mut log);
+        let a = keeping::running(slots, win, memory, budget, stop, journal, mark, &mut log);
         let full = (a.reason == 4) & (LONGEST_RECORD <= journal.len());
         if full {
             return full::running_full(
                 slots,
+                win,
                 memory,
                 budget,
                 stop,
@@ -127,10 +141,16 @@ pub fn run(
     }
 }
 
-pub fn undo(slots: &mut [u32; SLOTS], memory: &mut [u8], journal: &[u8], mark: usize) -> UndoAnswer
-    ensures { λ a. ⌜ UndoPromise (now (slots .entry)) (now (memory .entry)) (now (journal .entry)) mark (now (slots .exit)) (now (memory .exit)) a ⌝ }
+pub fn undo(
+    slots: &mut [u32; SLOTS],
+    win: Window,
+    memory: &mut [u8],
+    journal: &[u8],
+    mark: usize,
+) -> UndoAnswer
+    ensures { λ a. ⌜ UndoPromise win (now (slots .entry)) (now (memory .entry)) (now (journal .entry)) mark (now (slots .exit)) (now (memory .exit)) a ⌝ }
 {
-    let number = answers::undo_number(slots, memory, journal, mark);
+    let number = answers::undo_number(slots, win, memory, journal, mark);
     let good = number == 0;
     if good {
         let a = undo::undo(slots, memory, journal, mark);

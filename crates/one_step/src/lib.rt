@@ -76,9 +76,9 @@ fn lent_attempt<'a>(r: &mut [u32; SLOTS], win: Window, mem: &'a [u8], f: Flow) -
 
 // One instruction. The slots before it are lent a second time, as they were.
 fn instruction(
-    win: Window,
     s: &mut [u32; SLOTS],
     before: &[u32; SLOTS],
+    win: Window,
     mem: &mut [u8],
     log: &mut [u64],
 ) -> Taken
@@ -135,9 +135,9 @@ fn interrupt_clocks(event: u32) -> u32
 // One whole step with its request, the slots before it lent a second time: an interrupt that is taken, or nothing where the machine is
 // stopped, or one instruction.
 pub fn one_step(
-    win: Window,
     s: &mut [u32; SLOTS],
     before: &[u32; SLOTS],
+    win: Window,
     mem: &mut [u8],
     log: &mut [u64],
     level: u32,
@@ -163,7 +163,7 @@ pub fn one_step(
     }
     let running = s[codes::MODE] == codes::RUNNING;
     if running {
-        return instruction(win, s, before, mem, log);
+        return instruction(s, before, win, mem, log);
     }
     Taken {
         n: 0,
