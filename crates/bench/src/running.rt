@@ -1,6 +1,7 @@
 // running.rt - runs of many steps from a reset: with a journal that starts again when it is full, or whose oldest records are dropped.
 // Means: nothing; proved safe.
 // Uses: codes, keeping, machine, io, libc.  Source: [01 Calls and what they give back], [K5]; the hash is FNV-1a of 32 bits.
+use bus::Window;
 use codes::SLOTS;
 use libc::STDOUT_FILENO;
 
@@ -112,8 +113,14 @@ struct Part {
 }
 
 // A run until the steps are done or the journal is full.
-fn run_part(left: u64, slots: &mut [u32; SLOTS], memory: &mut [u8], journal: &mut [u8]) -> Part {
-    let answer = keeping::run_keeping(slots, memory, budget(left), STOP, journal, 0);
+fn run_part(
+    left: u64,
+    slots: &mut [u32; SLOTS],
+    win: Window,
+    memory: &mut [u8],
+    journal: &mut [u8],
+) -> Part {
+    let answer = keeping::run_keeping(slots, win, memory, budget(left), STOP, journal, 0);
     Part {
         steps: answer.steps as u64,
         mark: answer.mark,
@@ -138,8 +145,14 @@ fn after(p: Progress, part: Part) -> Progress {
 }
 
 // The mark after an undo; 0 if it is refused.
-fn undo_once(slots: &mut [u32; SLOTS], memory: &mut [u8], journal: &[u8], mark: usize) -> usize {
-    let answer = machine::undo(slots, memory, journal, mark);
+fn undo_once(
+    slots: &mut [u32; SLOTS],
+    win: Window,
+    memory: &mut [u8],
+    journal: &[u8],
+    mark: usize,
+) -> usize {
+    let answer = machine::undo(slots, win, memory, journal, mark);
     if answer.number != 0 {
         return 0;
     }
@@ -147,11 +160,17 @@ fn undo_once(slots: &mut [u32; SLOTS], memory: &mut [u8], journal: &[u8], mark: 
 }
 
 // Undoes all that the journal holds.
-fn undo_all(slots: &mut [u32; SLOTS], memory: &mut [u8], journal: &[u8], mark: usize) {
+fn undo_all(
+    slots: &mut [u32; SLOTS],
+    win: Window,
+    memory: &mut [u8],
+    journal: &[u8],
+    mark: usize,
+) {
     let mut at = mark;
     let mut turns = u64::MAX;
     while turns > 0 && at > 0 {
-        at = undo_once(slots, memory, journal, at);
+        at = undo_once(slots, win, memory, journal, at);
         turns -= 1;
     }
 }
@@ -160,6 +179,7 @@ fn undo_all(slots: &mut [u32; SLOTS], memory: &mut [u8], journal: &[u8], mark: u
 fn run_undone(
     p: Progress,
     slots: &mut [u32; SLOTS],
+    win: Window,
     memory: &mut [u8],
     journal: &mut [u8],
     way: u32,
@@ -167,20 +187,21 @@ fn run_undone(
     if way != UNDONE {
         return 0;
     }
-    let part = run_part(p.left, slots, memory, journal);
-    undo_all(slots, memory, journal, part.mark);
+    let part = run_part(p.left, slots, win, memory, journal);
+    undo_all(slots, win, memory, journal, part.mark);
     part.clocks
 }
 
 fn run_kept(
     p: Progress,
     slots: &mut [u32; SLOTS],
+    win: Window,
     memory: &mut [u8],
     journal: &mut [u8],
     way: u32,
 ) -> Progress {
-    let undone = run_undone(p, slots, memory, journal, way);
-    let part = run_part(p.left, slots, memory, journal);
+    let undone = run_undone(p, slots, win, memory, journal, way);
+    let part = run_part(p.left, slots, win, memory, journal);
     let mut next = after(p, part);
     next.clocks = std::num::wrapping_add_u64(next.clocks, undone);
     if way == RECORDS {
@@ -204,10 +225,11 @@ fn after_drop(p: Progress, part: Part, moved: u64, dropped: u64) -> Progress {
 fn run_dropping(
     p: Progress,
     slots: &mut [u32; SLOTS],
+    win: Window,
     memory: &mut [u8],
     journal: &mut [u8],
 ) -> Progress {
-    let answer = machine::run(slots, memory, budget(p.left), STOP, journal, p.mark);
+    let answer = machine::run(slots, win, memory, budget(p.left), STOP, journal, p.mark);
     let part = Part {
         steps: answer.steps as u64,
         mark: answer.mark,
@@ -227,10 +249,11 @@ fn accepted(number: u32) -> u64 {
 fn step_dropping(
     p: Progress,
     slots: &mut [u32; SLOTS],
+    win: Window,
     memory: &mut [u8],
     journal: &mut [u8],
 ) -> Progress {
-    let answer = machine::step(slots, memory, 0, 0, journal, p.mark);
+    let answer = machine::step(slots, win, memory, 0, 0, journal, p.mark);
     let part = Part {
         steps: accepted(answer.number),
         mark: answer.mark,
@@ -242,14 +265,15 @@ fn step_dropping(
 fn run_once(
     p: Progress,
     slots: &mut [u32; SLOTS],
+    win: Window,
     memory: &mut [u8],
     journal: &mut [u8],
     way: u32,
 ) -> Progress {
     match way {
-        DROPPING => run_dropping(p, slots, memory, journal),
-        SINGLY => step_dropping(p, slots, memory, journal),
-        _ => run_kept(p, slots, memory, journal, way),
+        DROPPING => run_dropping(p, slots, win, memory, journal),
+        SINGLY => step_dropping(p, slots, win, memory, journal),
+        _ => run_kept(p, slots, win, memory, journal, way),
     }
 }
 
@@ -257,6 +281,7 @@ fn run_once(
 pub fn run_all(
     p: Progress,
     slots: &mut [u32; SLOTS],
+    win: Window,
     memory: &mut [u8],
     journal: &mut [u8],
     way: u32,
@@ -264,7 +289,7 @@ pub fn run_all(
     let mut now = p;
     let mut turns = u64::MAX;
     while turns > 0 && now.left > 0 {
-        now = run_once(now, slots, memory, journal, way);
+        now = run_once(now, slots, win, memory, journal, way);
         turns -= 1;
     }
     now

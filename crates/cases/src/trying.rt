@@ -1,6 +1,6 @@
 // trying.rt - one case: its step and the undo of it, each compared whole with what the line lists.
 // Means: what agrees is equal, of the two that compare; else nothing, proved safe.
-// Uses: codes, keeping, machine, compare.  Source: [01 Calls and what they give back], crates/vectors/README.md.
+// Uses: codes, bus, keeping, machine, compare.  Source: [01 Calls and what they give back], crates/vectors/README.md.
 ghost use mathlib.Core.Path.{_≡_};
 use crate::setting::change_slots;
 use crate::setting::fill;
@@ -12,6 +12,7 @@ use crate::text::decimal;
 use crate::text::marks;
 use crate::text::number;
 use crate::text::piece;
+use bus::Window;
 use codes::SLOTS;
 use compare::same;
 use compare::verdicts::AGREES;
@@ -23,7 +24,8 @@ use compare::verdicts::of_undo;
 // the mark that a step is given: bytes before it are seen to stay
 const MARK: usize = 1000;
 
-// spaces of a line that says nothing of its undo, and of one that does; and of both where the step's clocks follow
+// spaces of a line that says nothing of its undo, and of one that does; and of both where the step's clocks follow. A window may stand
+// after all of these, with a space more.
 const SPACES: usize = 9;
 
 const SPACES_WITH_CLOCKS: usize = 10;
@@ -37,20 +39,39 @@ fn field(text: &[u8], k: usize) -> &[u8] {
     piece(text, b' ', k)
 }
 
+// The last field of a line.
+fn last_field(text: &[u8]) -> &[u8] {
+    field(text, marks(text, b' '))
+}
+
+// Whether a line says a window, in its last field.
+fn says_window(text: &[u8]) -> bool {
+    same(piece(last_field(text), b'=', 0), b"window")
+}
+
+// The spaces of a line without its window.
+fn spaces(text: &[u8]) -> usize {
+    let all = marks(text, b' ');
+    if says_window(text) & (0 < all) {
+        return all - 1;
+    }
+    all
+}
+
 // Whether a line says what its undo is to leave.
 fn says_undo(text: &[u8]) -> bool {
-    SPACES_WITH_UNDO <= marks(text, b' ')
+    SPACES_WITH_UNDO <= spaces(text)
 }
 
 // Whether a line says the step's clocks, in a field after all others.
 fn says_clocks(text: &[u8]) -> bool {
-    let spaces = marks(text, b' ');
-    (spaces == SPACES_WITH_CLOCKS) | (spaces == SPACES_WITH_BOTH)
+    let n = spaces(text);
+    (n == SPACES_WITH_CLOCKS) | (n == SPACES_WITH_BOTH)
 }
 
-// The last field of a line.
-fn last_field(text: &[u8]) -> &[u8] {
-    field(text, marks(text, b' '))
+// The field after all others but the window.
+fn clocks_field(text: &[u8]) -> &[u8] {
+    field(text, spaces(text))
 }
 
 // The clocks that a field `clocks=N` says, N in base 10.
@@ -69,7 +90,43 @@ fn right_clocks(text: &[u8], clocks: u32) -> bool {
     if !says_clocks(text) {
         return true;
     }
-    clocks_in(last_field(text)) == clocks as u64
+    clocks_in(clocks_field(text)) == clocks as u64
+}
+
+// An end of the window that a field `window=LO,HI` says, in base 16: 0 for LO, 1 for HI.
+fn window_end(field: &[u8], k: usize) -> u64 {
+    if marks(field, b'=') != 1 {
+        return NO_NUMBER;
+    }
+    let ends = piece(field, b'=', 1);
+    if marks(ends, b',') != 1 {
+        return NO_NUMBER;
+    }
+    number(piece(ends, b',', k))
+}
+
+// Whether a line's window, where it says one, is two numbers.
+fn has_window(text: &[u8]) -> bool {
+    if !says_window(text) {
+        return true;
+    }
+    let last = last_field(text);
+    (window_end(last, 0) < NO_NUMBER) & (window_end(last, 1) < NO_NUMBER)
+}
+
+// The window that a line says, or all of a memory of so many bytes.
+fn window(text: &[u8], len: usize) -> Window {
+    if !says_window(text) {
+        return Window {
+            lo: 0,
+            hi: (len % 4294967296) as u32,
+        };
+    }
+    let last = last_field(text);
+    Window {
+        lo: (window_end(last, 0) % NO_NUMBER) as u32,
+        hi: (window_end(last, 1) % NO_NUMBER) as u32,
+    }
 }
 
 // The mark after the step.
@@ -131,12 +188,13 @@ fn undo_wanted(text: &[u8]) -> Answer {
 
 fn step(
     slots: &mut [u32; SLOTS],
+    win: Window,
     memory: &mut [u8],
     level: u32,
     vector: u8,
     journal: &mut [u8],
 ) -> Taken {
-    let answer = keeping::step_keeping(slots, memory, level, vector, journal, MARK);
+    let answer = keeping::step_keeping(slots, win, memory, level, vector, journal, MARK);
     Taken {
         number: answer.number,
         mark: answer.mark,
@@ -144,8 +202,14 @@ fn step(
     }
 }
 
-fn undo(slots: &mut [u32; SLOTS], memory: &mut [u8], journal: &[u8], mark: usize) -> Answer {
-    let answer = machine::undo(slots, memory, journal, mark);
+fn undo(
+    slots: &mut [u32; SLOTS],
+    win: Window,
+    memory: &mut [u8],
+    journal: &[u8],
+    mark: usize,
+) -> Answer {
+    let answer = machine::undo(slots, win, memory, journal, mark);
     Answer {
         number: answer.number as u64,
         mark: answer.mark,
@@ -174,7 +238,8 @@ fn compare_step(
     if 255 < vector {
         return MALFORMED;
     }
-    let answer = step(slots, memory, level as u32, vector as u8, journal);
+    let win = window(text, memory.len());
+    let answer = step(slots, win, memory, level as u32, vector as u8, journal);
     let next = next_mark(text);
     let timely = right_clocks(text, answer.clocks);
     of_step(
@@ -204,7 +269,8 @@ fn compare_undo(
     ensures { λ r. ⌜ (r ≡ 0 → now (memory .exit) ≡ now (wanted .entry)) ⌝ }
 {
     let due = undo_wanted(text);
-    let answer = undo(slots, memory, journal, next_mark(text));
+    let win = window(text, memory.len());
+    let answer = undo(slots, win, memory, journal, next_mark(text));
     of_undo(
         answer.number,
         due.number,
@@ -279,24 +345,24 @@ fn on_zeros(text: &[u8], memory: &mut [u8], wanted: &mut [u8]) -> u32 {
     with_filled(text, memory, wanted, &mut journal, &mut record)
 }
 
-// Whether a line's last field says clocks, where it is to say them.
+// Whether a line's clocks, where it says them, are a number.
 fn has_clocks(text: &[u8]) -> bool {
     if !says_clocks(text) {
         return true;
     }
-    clocks_in(last_field(text)) < NO_NUMBER
+    clocks_in(clocks_field(text)) < NO_NUMBER
 }
 
-// Whether a line has ten fields, or fourteen of which those of the undo's answer are numbers; and after them none, or clocks.
+// Whether a line has ten fields, or fourteen of which those of the undo's answer are numbers; and after them none, clocks, a window or both.
 fn has_fields(text: &[u8]) -> bool {
-    if !has_clocks(text) {
+    if !(has_clocks(text) & has_window(text)) {
         return false;
     }
-    let spaces = marks(text, b' ');
-    if (spaces == SPACES) | (spaces == SPACES_WITH_CLOCKS) {
+    let n = spaces(text);
+    if (n == SPACES) | (n == SPACES_WITH_CLOCKS) {
         return true;
     }
-    if (spaces != SPACES_WITH_UNDO) & (spaces != SPACES_WITH_BOTH) {
+    if (n != SPACES_WITH_UNDO) & (n != SPACES_WITH_BOTH) {
         return false;
     }
     if NO_NUMBER <= number(field(text, 10)) {

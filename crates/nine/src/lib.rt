@@ -1,6 +1,7 @@
 // lib.rt - four steps and four undos of a memory, each told in a line.
 // Means: nothing; proved safe. The lines are those of 01's small program.
-// Uses: codes, keeping, machine, io, libc.  Source: [01 Set down and proved].
+// Uses: codes, bus, keeping, machine, io, libc.  Source: [01 Set down and proved].
+use bus::Window;
 use codes::SLOTS;
 use libc::STDOUT_FILENO;
 
@@ -55,49 +56,74 @@ fn after_undo(s: Standing, number: u32, mark: usize) -> Standing {
     }
 }
 
-fn step(s: Standing, slots: &mut [u32; SLOTS], memory: &mut [u8], journal: &mut [u8]) -> Standing {
-    let answer = keeping::step_keeping(slots, memory, 0, 0, journal, s.mark);
+fn step(
+    s: Standing,
+    slots: &mut [u32; SLOTS],
+    win: Window,
+    memory: &mut [u8],
+    journal: &mut [u8],
+) -> Standing {
+    let answer = keeping::step_keeping(slots, win, memory, 0, 0, journal, s.mark);
     after_step(s, answer.number, answer.mark)
 }
 
-fn undo(s: Standing, slots: &mut [u32; SLOTS], memory: &mut [u8], journal: &[u8]) -> Standing {
-    let answer = machine::undo(slots, memory, journal, s.mark);
+fn undo(
+    s: Standing,
+    slots: &mut [u32; SLOTS],
+    win: Window,
+    memory: &mut [u8],
+    journal: &[u8],
+) -> Standing {
+    let answer = machine::undo(slots, win, memory, journal, s.mark);
     after_undo(s, answer.number, answer.mark)
 }
 
 fn four_steps(
     s: Standing,
     slots: &mut [u32; SLOTS],
+    win: Window,
     memory: &mut [u8],
     journal: &mut [u8],
 ) -> Standing {
     let mut now = s;
     for _ in 0..4u32 {
-        now = step(now, slots, memory, journal);
+        now = step(now, slots, win, memory, journal);
         write_line(slots, now);
     }
     now
 }
 
-fn four_undos(s: Standing, slots: &mut [u32; SLOTS], memory: &mut [u8], journal: &[u8]) {
+fn four_undos(
+    s: Standing,
+    slots: &mut [u32; SLOTS],
+    win: Window,
+    memory: &mut [u8],
+    journal: &[u8],
+) {
     let mut now = s;
     for _ in 0..4u32 {
-        now = undo(now, slots, memory, journal);
+        now = undo(now, slots, win, memory, journal);
         write_line(slots, now);
     }
 }
 
-fn with_journal(slots: &mut [u32; SLOTS], memory: &mut [u8], journal: &mut [u8; 4096]) {
+fn with_journal(
+    slots: &mut [u32; SLOTS],
+    win: Window,
+    memory: &mut [u8],
+    journal: &mut [u8; 4096],
+) {
     let s = Standing { steps: 0, mark: 0 };
     write_line(slots, s);
-    let t = four_steps(s, slots, memory, journal);
-    four_undos(t, slots, memory, journal);
+    let t = four_steps(s, slots, win, memory, journal);
+    four_undos(t, slots, win, memory, journal);
 }
 
 // Resets, takes four steps and undoes four; a line after each.
 pub fn nine_lines(memory: &mut [u8; 65536]) {
     let mut slots = [0u32; SLOTS];
     let mut journal = [0u8; 4096];
-    machine::reset(&mut slots, memory);
-    with_journal(&mut slots, memory, &mut journal);
+    let a = machine::reset(&mut slots, memory);
+    let win = Window { lo: a.lo, hi: a.hi };
+    with_journal(&mut slots, win, memory, &mut journal);
 }

@@ -9,6 +9,7 @@ ghost use mathlib.Core.Path.{_≡_};
 ghost use Prim.Native.Nat.{_≤_, _<_};
 ghost use lib.ListN.{length};
 ghost use Rattle.codes.specs.Codes.{Slots};
+use bus::Window;
 use codes::SLOTS;
 use compare::same;
 use compare::same_slots;
@@ -96,6 +97,9 @@ fn tell_short_journal(journal: &[u8; 535], paper: [u8; 535]) {
     tell_bytes(b"journal", journal, &mut wanted);
 }
 
+// The window of all cases: all of a memory of 1,024 bytes.
+const ALL: Window = Window { lo: 0, hi: 1024 };
+
 // A memory of 1,024 bytes with the word at $200.
 fn memory_with(high: u8, low: u8) -> [u8; 1024] {
     let mut m = [0u8; 1024];
@@ -121,7 +125,7 @@ fn add_byte() {
     let mut s = slots_with(127, 1, 1024, 512, 9984, 0);
     let mut m = memory_with(208, 1);
     let mut j = [0u8; 536];
-    let a = keeping::step_keeping(&mut s, &mut m, 0, 0, &mut j, 0);
+    let a = keeping::step_keeping(&mut s, ALL, &mut m, 0, 0, &mut j, 0);
     show(b"ADD.B $7F + $01: number ", a.number);
     show(b", D0 ", s[0]);
     show(b", flags ", s[codes::SR] % codes::FLAG_VALUES);
@@ -143,7 +147,7 @@ fn odd_stack() {
     let mut s = slots_with(0, 0, 769, 512, 9984, 0);
     let mut m = memory_with(74, 252);
     let mut j = [0u8; 536];
-    let a = keeping::step_keeping(&mut s, &mut m, 0, 0, &mut j, 0);
+    let a = keeping::step_keeping(&mut s, ALL, &mut m, 0, 0, &mut j, 0);
     show(b"$4AFC with SSP $301: number ", a.number);
     show(b", mode ", s[codes::MODE]);
     show_count(b", mark ", a.mark as u64);
@@ -158,7 +162,7 @@ fn journal_too_short() {
     let mut s = slots_with(0, 0, 1024, 512, 9984, 0);
     let mut m = memory_with(112, 1);
     let mut j = [0u8; 535];
-    let a = keeping::step_keeping(&mut s, &mut m, 0, 0, &mut j, 0);
+    let a = keeping::step_keeping(&mut s, ALL, &mut m, 0, 0, &mut j, 0);
     show(b"535 journal bytes: number ", a.number);
     end_line();
     tell_slots(&s, slots_with(0, 0, 1024, 512, 9984, 0));
@@ -171,7 +175,7 @@ fn journal_room() {
     let mut s = slots_with(0, 0, 1024, 512, 9984, 0);
     let mut m = memory_with(112, 1);
     let mut j = [0u8; 536];
-    let a = keeping::step_keeping(&mut s, &mut m, 0, 0, &mut j, 0);
+    let a = keeping::step_keeping(&mut s, ALL, &mut m, 0, 0, &mut j, 0);
     show(b"536 journal bytes: number ", a.number);
     end_line();
     tell_slots(&s, slots_with(1, 0, 1024, 514, 9984, 0));
@@ -183,7 +187,7 @@ fn no_budget() {
     let mut s = slots_with(0, 0, 1024, 512, 9984, 2);
     let mut m = memory_with(96, 254);
     let mut j = [0u8; 536];
-    let a = keeping::run_keeping(&mut s, &mut m, 0, 0, &mut j, 0);
+    let a = keeping::run_keeping(&mut s, ALL, &mut m, 0, 0, &mut j, 0);
     show(b"budget 0 on a halted machine: number ", a.number);
     show(b", reason ", a.reason);
     show(b", steps ", a.steps);
@@ -197,7 +201,7 @@ fn full_kept() {
     let mut s = slots_with(0, 0, 1024, 512, 9984, 0);
     let mut m = memory_with(112, 1);
     let mut j = record_of_mode();
-    let a = keeping::step_keeping(&mut s, &mut m, 0, 0, &mut j, 4);
+    let a = keeping::step_keeping(&mut s, ALL, &mut m, 0, 0, &mut j, 4);
     show(b"532 bytes free, all records kept: number ", a.number);
     show_count(b", mark ", a.mark as u64);
     end_line();
@@ -221,7 +225,7 @@ fn full_dropped() {
     let mut s = slots_with(0, 0, 1024, 512, 9984, 0);
     let mut m = memory_with(112, 1);
     let mut j = record_of_mode();
-    let a = machine::step(&mut s, &mut m, 0, 0, &mut j, 4);
+    let a = machine::step(&mut s, ALL, &mut m, 0, 0, &mut j, 4);
     show(b"532 bytes free, the oldest dropped: number ", a.number);
     show_count(b", mark ", a.mark as u64);
     show_count(b", moved ", a.moved as u64);
@@ -237,7 +241,7 @@ fn torn_step() {
     let mut s = slots_with(0, 0, 1024, 512, 9984, 0);
     let mut m = memory_with(112, 1);
     let mut j = [0u8; 536];
-    let a = machine::step(&mut s, &mut m, 0, 0, &mut j, 1);
+    let a = machine::step(&mut s, ALL, &mut m, 0, 0, &mut j, 1);
     show(b"a byte that is no record, a step: number ", a.number);
     show_count(b", mark ", a.mark as u64);
     end_line();
@@ -251,7 +255,7 @@ fn torn_run() {
     let mut s = slots_with(0, 0, 1024, 512, 9984, 0);
     let mut m = memory_with(112, 1);
     let mut j = [0u8; 536];
-    let a = machine::run(&mut s, &mut m, 1, 512, &mut j, 1);
+    let a = machine::run(&mut s, ALL, &mut m, 1, 512, &mut j, 1);
     show(b"a byte that is no record, a run: number ", a.number);
     show(b", reason ", a.reason);
     show(b", steps ", a.steps);
