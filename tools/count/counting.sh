@@ -21,6 +21,8 @@ is_steps() { case $1 in '' | *[!0-9]* | 0*) die "STEPS is a number, 1 or more" ;
 
 # Builds bench, the program that is counted unless another is set.
 build_bench() {
+    program=${BENCH:-}
+    [ -z "$program" ] || return 0
     "$root/run" bench </dev/null || die "bench could not be built"
     program=$root/target/bin/bench
 }

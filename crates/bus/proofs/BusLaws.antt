@@ -1,5 +1,5 @@
--- BusLaws.antt - one law for each return of the functions of bus: the two leaf reads on the parts, all others over any view; and that the
--- parts of all of a memory show all of it. Only these and the leaf laws open `view-of`.
+-- BusLaws.antt - one law for each return of the functions of bus: the two leaf reads on the parts, all others over any view. whole-shows:
+-- the parts of all of a memory show all of it. room-keeps: asking for room changes no more of a flow than its fault.
 -- Uses: bits.
 use Prim.Native.Nat.{ℕ, zero, suc, _+_, _*_, _%_, _<_}
 use native.Mathlib.Omega.{arith}
@@ -94,6 +94,45 @@ module _ (v : View) (a z : ℕ) (f : Flow) where
   pub room-long : (r : Fetched) → eqb z 0 ≡ false → eqb z 1 ≡ false → r ≡ read-long v a 1 f → r .flow ≡ room v a z f
   unfolding room read-sized by-size
   room-long r t u e = cc
+
+-- an access changes no more of a flow than its fault
+module _ (v : View) (k : ℕ) where
+  abbrev Kept : Flow → Flow → Type 0
+  Kept f g = (g .pc ≡ f .pc) × (g .sr ≡ f .sr)
+
+  byte-keeps : (a : ℕ) (f : Flow) → Kept f (read-byte v a k f .flow)
+  unfolding read-byte
+  byte-keeps a f = go (eqb (f .bad) 0) (v .byte-ok (pins a))
+    where
+      go : (b c : Bool) → Kept f (pick b (pick c (fetched (v .byte (pins a)) f) (fetched 0 (failed f 2 (pins a) k))) (fetched 0 f) .flow)
+      go true true = (refl, refl)
+      go true false = (refl, refl)
+      go false c = (refl, refl)
+
+  word-keeps : (a : ℕ) (f : Flow) → Kept f (read-word v a k f .flow)
+  unfolding read-word
+  word-keeps a f = go (eqb (f .bad) 0) (eqb (pins a % 2) 1) (v .word-ok (pins a))
+    where
+      go : (b c d : Bool) → Kept f (pick b (pick c (fetched 0 (failed f 3 (pins a) k)) (pick d (fetched (v .word (pins a)) f) (fetched 0 (failed f 2 (pins a) k)))) (fetched 0 f) .flow)
+      go true true d = (refl, refl)
+      go true false true = (refl, refl)
+      go true false false = (refl, refl)
+      go false c d = (refl, refl)
+
+  long-keeps : (a : ℕ) (f : Flow) → Kept f (read-long v a k f .flow)
+  unfolding read-long
+  long-keeps a f =
+      let x = word-keeps a f in
+      let y = word-keeps (plus a 2) (read-word v a k f .flow) in (y .0 ∙ x .0, y .1 ∙ x .1)
+
+pub room-keeps : (v : View) (a z : ℕ) (f : Flow) → (room v a z f .pc ≡ f .pc) × (room v a z f .sr ≡ f .sr)
+unfolding room read-sized by-size
+room-keeps v a z f = go (eqb z 0) (eqb z 1)
+  where
+    go : (b c : Bool) → Kept v 1 f (pick b (read-byte v a 1 f) (pick c (read-word v a 1 f) (read-long v a 1 f)) .flow)
+    go true c = byte-keeps v 1 a f
+    go false true = word-keeps v 1 a f
+    go false false = long-keeps v 1 a f
 
 -- q is what the code lends: all of the memory m
 module _ (m : List ℕ) (q : List (List ℕ)) (a : ℕ) (f : Flow) (all : q ≡ whole m) where

@@ -197,6 +197,15 @@ pub fn room(mem: &Parts, a: u32, z: u32, f: Flow) -> Flow
     w.flow
 }
 
+// The fault that a flow then carries, 0 if none. By numbers: a caller that has the flow in registers keeps it there.
+pub fn room_fault(mem: &Parts, a: u32, z: u32, pc: u32, sr: u32, bad: u32) -> u32
+    ensures { λ r. ⌜ r ≡ room (view-of (map now (now (mem .entry)))) a z (record { pc = pc; sr = sr; bad = bad }) .bad ⌝ }
+{
+    let f = Flow { pc, sr, bad };
+    let g = room(mem, a, z, f);
+    g.bad
+}
+
 // ---- the same in all of memory, for what no window hides: frames and vectors
 
 pub fn room_anywhere(mem: &[u8], a: u32, z: u32, f: Flow) -> Flow

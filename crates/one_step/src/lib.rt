@@ -42,7 +42,15 @@ fn checked(mem: &Parts, p: Plan) -> Plan
         return p;
     }
     if one {
-        return plan_with_flow(p, bus::room(mem, p.at, p.write, f));
+        let bad = bus::room_fault(mem, p.at, p.write, f.pc, f.sr, f.bad);
+        return plan_with_flow(
+            p,
+            Flow {
+                pc: f.pc,
+                sr: f.sr,
+                bad,
+            },
+        );
     }
     plan_with_flow(p, blocks::block_room(mem, p))
 }

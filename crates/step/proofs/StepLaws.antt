@@ -2,7 +2,7 @@
 -- slots-by, memory-by, event-by take a part of such an equation.
 -- Uses: bits, bus, plan, bank, exception, execute.
 use Prim.Native.Nat.{ℕ, _*_, _%_, _/_}
-use mathlib.Core.Path.{_≡_, ap}
+use mathlib.Core.Path.{_≡_, sym, ap}
 use mathlib.Core.Bool.{Bool, true, false, _&&_, _||_, not}
 use mathlib.Core.List.{List}
 use lib.Dec.{ltb, eqb}
@@ -14,6 +14,7 @@ use Rattle.bus.specs.declared.Flow.{Flow}
 use Rattle.bus.specs.declared.Fetched.{Fetched}
 use Rattle.bus.specs.Bus.{View, view-of, seen-by, next-word, room, put-sized}
 use Rattle.bus.specs.declared.Window.{Window}
+use Rattle.bus.proofs.BusLaws.{room-keeps}
 use Rattle.plan.specs.declared.Plan.{Plan}
 use Rattle.plan.specs.Plans.{Done}
 use Rattle.movem.specs.Movem.{block-room, block-put}
@@ -39,18 +40,23 @@ module _ (x y : Stepped) (e : x ≡ y) where
 abbrev still : List ℕ → List ℕ → Stepped
 still s m = record { s = s; m = m; event = 0 }
 
-module _ (v : View) (p q : Plan) (g : Flow) where
+module _ (v : View) (p q : Plan) where
   pub checked-none : eqb (p .write) 3 ≡ true → p ≡ checked v p
   unfolding checked
   checked-none t = cc
 
-  pub checked-one : eqb (p .write) 3 ≡ false → ltb (p .write) 3 ≡ true → g ≡ room v (p .at) (p .write) (p .flow) → q ≡ plan-with-flow p g → q ≡ checked v p
+  -- the fault alone is asked for
+  pub checked-one : (n : ℕ) → eqb (p .write) 3 ≡ false → ltb (p .write) 3 ≡ true → n ≡ room v (p .at) (p .write) (p .flow) .bad
+      → q ≡ plan-with-flow p (record { pc = p .flow .pc; sr = p .flow .sr; bad = n }) → q ≡ checked v p
   unfolding checked
-  checked-one t u e d = cc
+  checked-one n t u e d =
+      let k = room-keeps v (p .at) (p .write) (p .flow) in
+      let same : record { pc = p .flow .pc; sr = p .flow .sr; bad = n } ≡ room v (p .at) (p .write) (p .flow) =
+      (λ j. record { pc = sym (k .0) j; sr = sym (k .1) j; bad = e j }) in cc (ap (plan-with-flow p) same)
 
-  pub checked-block : eqb (p .write) 3 ≡ false → ltb (p .write) 3 ≡ false → g ≡ block-room v p → q ≡ plan-with-flow p g → q ≡ checked v p
+  pub checked-block : (g : Flow) → eqb (p .write) 3 ≡ false → ltb (p .write) 3 ≡ false → g ≡ block-room v p → q ≡ plan-with-flow p g → q ≡ checked v p
   unfolding checked
-  checked-block t u e d = cc
+  checked-block g t u e d = cc
 
 module _ (r t : List ℕ) (v : View) (f : Flow) (w : Fetched) (p q : Plan) (e : w ≡ next-word v f) where
   pub attempt-is : (n : ℕ) → record { r = t; p = p } ≡ execute r v (w .value) (w .flow) → n ≡ own-clocks r v (w .value) (w .flow) → q ≡ checked v p
