@@ -13,7 +13,6 @@ use Rattle.bits.specs.Bits.{plus}
 use Rattle.bus.specs.declared.Flow.{Flow}
 use Rattle.bus.specs.declared.Fetched.{Fetched}
 use Rattle.bus.specs.Bus.{View, all-of, read-word, read-long, pins}
-use Rattle.bus.proofs.BusLaws.{word-inside}
 use Rattle.frames.specs.Frames.{small-frame, big-frame}
 use Rattle.frames.specs.Under.{under-small, under-big}
 use Rattle.frames.proofs.UnderLaws.{Over, over-small, over-big}
@@ -32,13 +31,12 @@ word-past false c n a k f d e h = cc
 module _ (n : List ℕ) (k : ℕ) where
   word-at : (a : ℕ) → a % 2 ≡ 0 → a < 2048 → a + 1 < length n
       → read-word (all-of n) a k (fresh 0 0) ≡ record { value = getD n a 0 * 256 + getD n (a + 1) 0; flow = fresh 0 0 }
+  unfolding read-word all-of
   word-at a even low h =
       let q : pins a ≡ a = omega (arith, low) in
-      sym (word-inside n a k (fresh 0 0) refl (getD n a 0) (getD n (a + 1) 0)
-      (ne-eqb (pins a % 2) 1 (λ z. omega (arith, q, z, even)))
-      (lt-ltb (pins a + 1) (length n) (omega (arith, q, h)))
-      (ap (λ (i : ℕ). getD n i 0) (sym q))
-      (ap (λ (i : ℕ). getD n (i + 1) 0) (sym q)))
+      let o = ne-eqb (pins a % 2) 1 (λ z. omega (arith, q, z, even)) in
+      let i = lt-ltb (pins a + 1) (length n) (omega (arith, q, h)) in
+      cc (ap (λ (i : ℕ). getD n i 0) q, ap (λ (i : ℕ). getD n (i + 1) 0) q)
 
   -- a: the vector's place, even and below 1,024; t: whether memory has all of it
   long-parity : (t : Bool) (a : ℕ) → ltb (a + 3) (length n) ≡ t → a % 2 ≡ 0 → a < 1024

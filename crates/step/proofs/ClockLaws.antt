@@ -8,11 +8,12 @@ use mathlib.Core.List.{List}
 use lib.Dec.{ltb, eqb}
 use Rattle.bus.specs.declared.Flow.{Flow}
 use Rattle.bus.specs.declared.Window.{Window}
-use Rattle.bank.specs.Bank.{pc-of, sr-of, mode-of, tracing, bank}
+use Rattle.bus.specs.Bus.{seen-by}
+use Rattle.bank.specs.Bank.{pc-of, sr-of, mode-of, tracing, bank, supervisor}
 use Rattle.exception.specs.Exceptions.{fresh}
 use Rattle.clocks.specs.Clocks.{exception-clocks}
 use Rattle.step.specs.declared.Tried.{Tried}
-use Rattle.step.specs.Steps.{sight, Attempt, attempt, trap-of, traced, conclude, interrupt, trap-clocks, trace-clocks, ended-clocks}
+use Rattle.step.specs.Steps.{Attempt, attempt, trap-of, traced, conclude, interrupt, trap-clocks, trace-clocks, ended-clocks}
 use Rattle.step.specs.Steps.{concluded-clocks, instruction-clocks, interrupt-clocks, step-clocks}
 
 -- of an instruction that met no fault, with its trap's vector
@@ -68,7 +69,7 @@ concluded-is s m r s₁ t b x n e1 e2 e3 e4 = cc
 
 -- s₁ is the second loan of the slots s
 pub instruction-clocks-is : (win : Window) (s s₁ m r₀ r : List ℕ) (f : Flow) (t : Tried) (n : ℕ) → s₁ ≡ s → r₀ ≡ bank s → f ≡ fresh (pc-of s) (sr-of s)
-    → record { r = r; t = t } ≡ attempt r₀ (sight win s m) f → n ≡ concluded-clocks s₁ m r t → n ≡ instruction-clocks win s m
+    → record { r = r; t = t } ≡ attempt r₀ (seen-by (supervisor (f .sr)) win m) f → n ≡ concluded-clocks s₁ m r t → n ≡ instruction-clocks win s m
 unfolding instruction-clocks
 instruction-clocks-is win s s₁ m r₀ r f t n e0 e1 e2 e3 e4 = cc (ap (λ (a : Attempt). a .r) e3, ap (λ (a : Attempt). a .t) e3)
 

@@ -21,7 +21,7 @@ use Rattle.bank.specs.Bank.{pc-of, sr-of, mode-of, supervisor, tracing, bank, s
 use Rattle.exception.specs.Exceptions.{Stepped, fresh, supervisor-sr, exception, fault}
 use Rattle.execute.specs.Dispatch.{execute, own-clocks}
 use Rattle.step.specs.declared.Tried.{Tried}
-use Rattle.step.specs.Steps.{sight, plan-with-flow, checked, Attempt, attempt, commit, trap-of, take-trap, traced, both, carry-out, conclude}
+use Rattle.step.specs.Steps.{plan-with-flow, checked, Attempt, attempt, commit, trap-of, take-trap, traced, both, carry-out, conclude}
 use Rattle.step.specs.Steps.{instruction, interrupt-sr, interrupt, one-step}
 
 -- a part of an outcome
@@ -183,7 +183,7 @@ module _ (s m r : List ℕ) (t : Tried) where
 
 -- s₁ is the second loan of the slots s
 pub instruction-is : (win : Window) (s s₁ m r₀ r : List ℕ) (f : Flow) (t : Tried) → s₁ ≡ s → r₀ ≡ bank s → f ≡ fresh (pc-of s) (sr-of s)
-    → record { r = r; t = t } ≡ attempt r₀ (sight win s m) f → conclude s₁ m r t ≡ instruction win s m
+    → record { r = r; t = t } ≡ attempt r₀ (seen-by (supervisor (f .sr)) win m) f → conclude s₁ m r t ≡ instruction win s m
 unfolding instruction
 instruction-is win s s₁ m r₀ r f t e0 e1 e2 e3 = cc (ap (λ (a : Attempt). a .r) e3, ap (λ (a : Attempt). a .t) e3)
 

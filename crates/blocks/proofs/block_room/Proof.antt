@@ -7,4 +7,4 @@ use Rattle.blocks.proofs.block_room.Tie as tie
 pub block-room-spec : {M : Type 1} → statement M
 block-room-spec =
     tie.close (tie.spec
-    (λ c κs. search needs) (λ c. search room-whole) (λ c κs. search needs) (λ c κs. search needs) (λ c. search block-room-is))
+    (λ c κs. search needs) (λ c κs. search needs) (λ c κs. search needs) (λ c. search room-whole) (λ c κs. search needs) (λ c κs. search needs) (λ c. search block-room-is))

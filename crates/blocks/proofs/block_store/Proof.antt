@@ -11,9 +11,9 @@ store-whole-requires c κs =
     let a = c .before .before .before in
     let t = c .before .before .if1 .taken in
     let f = a .before .before .before in
-    let s = f .before .before .before .before .before in
+    let s = f .before .before .before .before in
     let z = s .args in
-    let w = f .before .before .put-way .ensures in
+    let w = f .before .put-way .ensures in
     (s .pre, whole-taken (now (z .memory)) (now (z .log)) (z .n) (z .p) _ _ _ w (f .fits2 .ensures) (a .above .ensures) t)
 
 pub block-store-spec : {M : Type 1} → statement M

@@ -13,14 +13,14 @@ mul-n c =
 abbrev counted : tie.After-struct-known5 → tie.After-ones-of
 counted c = c .before .before .before .before .before
 
-cast-result-2 : tie.Need-cast-result-2
-cast-result-2 c =
+cast-end : tie.Need-cast-end
+cast-end c =
     let o = counted c in
     let b = span-bound _ _ _ (o .before .put-way .ensures) (o .ones-of .ensures) in
     record { fits = omega (arith, b) }
 
-add-result : tie.Need-add-result
-add-result c =
+add-end : tie.Need-add-end
+add-end c =
     let o = counted c in
     let b = span-bound _ _ _ (o .before .put-way .ensures) (o .ones-of .ensures) in
     record { fits = omega (arith, b) }
@@ -28,9 +28,9 @@ add-result c =
 returns : tie.Need-returns
 returns c =
     let o = counted c in
-    fits-is _ _ _ _ (o .before .put-way .ensures) (o .ones-of .ensures)
+    fits-is _ _ _ _ _ (o .before .put-way .ensures) (o .ones-of .ensures)
 
 pub fits-spec : {M : Type 1} → statement M
 fits-spec =
     tie.close (tie.spec
-    (λ c κs. search needs) (λ c κs. search needs) mul-n (λ c. search needs) cast-result-2 add-result returns)
+    (λ c κs. search needs) (λ c κs. search needs) mul-n (λ c. search needs) cast-end add-end (λ c. search needs) returns)

@@ -9,7 +9,7 @@ store-copied-requires : tie.Need-store-copied-requires
 store-copied-requires c κs =
     let w = c .before .before .before .before .before .before .before in
     let s = w .before .before .before .before in
-    let f = fits-when _ _ (s .pre .1 .0) in
+    let f = fits-when _ _ _ (s .pre .1 .0) in
     let e = w .put-way .ensures in
     (s .pre .0, (inside-when-fits _ _ _ f e, below-start (now (s .args .log)) (s .args .n) (s .args .p) _ e (s .pre .1 .1)))
 
@@ -20,7 +20,7 @@ returns c =
     let w = p .before .before .before .before in
     let s = w .before .before .before .before in
     let g = v .store-copied .ensures in
-    (values-memory _ _ _ _ _ _ (fits-when _ _ (s .pre .1 .0)) (w .put-way .ensures) (p .put .ensures) (g .1 .1) (g .0), g .1 .0)
+    (values-memory _ _ _ _ _ _ (fits-when _ _ _ (s .pre .1 .0)) (w .put-way .ensures) (p .put .ensures) (g .1 .1) (g .0), g .1 .0)
 
 pub store-whole-spec : {M : Type 1} → statement M
 store-whole-spec =
