@@ -12,6 +12,7 @@
 -- Source: [00 demand 3].
 use Prim.Native.Nat.{ℕ, _+_, _≤_}
 use mathlib.Core.Path.{_≡_, refl, sym, ap, subst, _∙_}
+use mathlib.Core.Bool.{true}
 use mathlib.Core.List.{List, [], _∷_, _++_, reverse}
 use native.Mathlib.Omega.{arith}
 use lib.ListN.{length}
@@ -109,11 +110,11 @@ module _ (x₀ : Machine) (lent : Lent (x₀ .slots) (x₀ .memory)) where
       ap undoing (a .is) ∙ undoing-to r (alone rs) (h .0) (h .1) (a .journal) (h .2) (h .3)
 
   undo-at : (x : Machine) (r : Request) (rs : List Request) → At x (r ∷ rs) → At (act Keeping undo-once x) rs
-  unfolding act
+  unfolding act one-more
   undo-at x r rs a =
       record {
         journal = x .journal;
-        is = ap (λ (c : UndoCall). record { window = x .window; slots = c .s; memory = c .m; journal = x .journal; mark = c .a .mark }) (undoing-at x r rs a);
+        is = λ i. let c = undoing-at x r rs a i in record { window = a .is i .window; slots = c .s; memory = c .m; journal = x .journal; mark = c .a .mark };
         holds = subst (λ (j : List ℕ). Holds j rs) (sym (ap (λ (y : Machine). y .journal) (a .is))) (a .holds .4);
       }
 
