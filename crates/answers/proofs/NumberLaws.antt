@@ -7,8 +7,7 @@ use mathlib.Core.Path.{_≡_, sym, ap, _∙_}
 use mathlib.Core.Bool.{Bool, true, false, _&&_, not}
 use mathlib.Core.List.{List, [], _∷_}
 use lib.ListN.{length}
-use lib.Dec.{ltb, leb, eqb}
-use borrow.Author.Tests.{eqb-true, eqb-false, not-true, not-false}
+use lib.Dec.{ltb, leb}
 use Rattle.bits.specs.Bits.{pick}
 use Rattle.bus.specs.declared.Window.{Window}
 use Rattle.bus.specs.declared.Flow.{Flow}
@@ -49,11 +48,11 @@ module _ {A : Type 0} (b c : Bool) (x y r : A) (d : c ≡ b) where
 
 -- and where the first tests were: k is their number
 module _ (win : Window) (s m : List ℕ) (last k r : ℕ) (d : k ≡ first-tests win s m 0) where
-  pub first-refuses : not (eqb k 0) ≡ true → r ≡ k → r ≡ first-tests win s m last
-  first-refuses t e = e ∙ d ∙ sym (first-stopped win s m last (λ z. eqb-false k 0 (not-true (eqb k 0) t) (d ∙ z)))
+  pub first-refuses : (k ≡ 0 → ⊥) → r ≡ k → r ≡ first-tests win s m last
+  first-refuses z e = e ∙ d ∙ sym (first-stopped win s m last (λ q. z (d ∙ q)))
 
-  pub first-passes : not (eqb k 0) ≡ false → r ≡ last → r ≡ first-tests win s m last
-  first-passes t e = e ∙ sym (first-passed win s m last (sym d ∙ eqb-true k 0 (not-false (eqb k 0) t)))
+  pub first-passes : k ≡ 0 → r ≡ last → r ≡ first-tests win s m last
+  first-passes z e = e ∙ sym (first-passed win s m last (sym d ∙ z))
 
 pub state-fits-is : (s : List ℕ) (b : Bool) → b ≡ valid-status (sr-of s) → (b && leb (mode-of s) 2) ≡ state-fits s
 state-fits-is s b e = cc

@@ -8,6 +8,6 @@ pub undo-number-spec : {M : Type 1} → statement M
 unfolding undo-number
 undo-number-spec =
     tie.close (tie.spec
-    (λ c κs. search needs) (λ c. search (first-refuses, first-passes, refuse, pass))
-    (λ c. search (first-refuses, first-passes, refuse, pass)) (λ c. search (first-refuses, first-passes, refuse, pass))
-    (λ c. search (first-refuses, first-passes, refuse, pass)))
+    (λ c κs. search needs) (λ c. search first-refuses)
+    (λ c. search (first-passes, refuse, pass)) (λ c. search (first-passes, refuse, pass))
+    (λ c. search (first-passes, refuse, pass)))
