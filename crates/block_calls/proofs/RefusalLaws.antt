@@ -24,7 +24,7 @@ use Rattle.calls.specs.declared.Manner.the-variants.{Dropping, Keeping}
 use Rattle.calls.specs.declared.StepAnswer.{StepAnswer}
 use Rattle.calls.specs.declared.RunAnswer.{RunAnswer}
 use Rattle.calls.specs.declared.UndoAnswer.{UndoAnswer}
-use Rattle.calls.specs.Calls.{StepCall, RunCall, UndoCall, refused-slots, reset-number, step-call, run-call, undo-call}
+use Rattle.calls.specs.Calls.{StepCall, RunCall, UndoCall, refused-slots, reset-number, reset-answer, step-call, run-call, undo-call}
 use Rattle.calls.specs.Refusals.{Line, Given, zero-at-end, this, later, NoneApplies, reset-table, step-table, run-table, undo-table}
 use Rattle.calls.proofs.RefusalLaws.{Verdict, given-unique, reset-verdict, step-verdict, run-verdict, undo-verdict}
 use Rattle.calls.proofs.RefusalLaws.{reset-refused, step-refused, run-refused, undo-refused}
@@ -118,7 +118,7 @@ module _ {A : Type 0} (number : A → ℕ) (refusal : ℕ → A) (is : (n : ℕ)
 -- ---- reset
 module _ (b m : List ℕ) where
   pub ibz-reset-verdict : IbzVerdict b (ibz-reset-table b m) (ibz-reset b m .a .number)
-  unfolding ibz-reset
+  unfolding ibz-reset reset-answer
   ibz-reset-verdict = ibz-verdict b (reset-table m) (reset-number m) (reset-verdict m) refl (λ (c : IbzReset). c .a .number) _ _ refl refl
 
   pub ibz-reset-at-nine : (length b ≡ block-length → ⊥) → ibz-reset b m ≡ record { b = b; a = record { number = no-block; lo = 0; hi = 0 } }
