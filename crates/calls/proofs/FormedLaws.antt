@@ -75,9 +75,16 @@ module _ (win : Window) (s m j : List ℕ) (mark : ℕ) where
       let g₂ = from-later (λ q. omega arith) g₁ in
       let g₃ = from-later (λ q. omega arith) g₂ in
       let g₄ = from-later (λ q. omega arith) g₃ in
-      let g₇ = from-later (λ q. omega arith) g₄ in
-      (not-this (λ q. omega arith) g₁, (not-this (λ q. omega arith) g₂, (not-this (λ q. omega arith) g₃,
-      (not-this (λ q. omega arith) g₄, (not-this (λ q. omega arith) g₇, tt)))))
+      let g₇ = from-later (λ q. omega arith) g₄ in (
+        not-this (λ q. omega arith) g₁,
+        (
+          not-this (λ q. omega arith) g₂,
+          (
+            not-this (λ q. omega arith) g₃,
+            (not-this (λ q. omega arith) g₄, (not-this (λ q. omega arith) g₇, tt)),
+          ),
+        ),
+      )
 
   pub undo-gives-8 : ValidBytes j
       → ((undo-call win s m j mark .a .number ≡ 8) ↔ (NoneApplies (undo-table-before-8 win s m j mark) × (SomeFormed s m j mark → ⊥)))
