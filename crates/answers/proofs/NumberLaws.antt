@@ -1,6 +1,6 @@
 -- NumberLaws.antt - the laws that the functions of this crate cite: a refusal given or passed over, the slots of a reset, undo's answer.
--- refuse, pass, refuse-not, pass-not; state-fits-is; no-room-dropping, no-room-keeping; reset-slots-is; undo-answer-done, undo-answer-refused.
--- Uses: bits, bus, bank, record, undo, exception.
+-- refuse, pass, refuse-not, pass-not, refuse-by, pass-by; first-refuses, first-passes; state-fits-is; no-room-dropping, no-room-keeping; reset-slots-is; undo-answer-done, undo-answer-refused.
+-- Uses: bits, bus, bank, record, undo, exception, calls.
 use Prim.Native.Nat.{ℕ, _-_, _<_, _^_}
 use native.Mathlib.Omega.{arith}
 use mathlib.Core.Path.{_≡_, sym, ap, _∙_}
@@ -9,6 +9,7 @@ use mathlib.Core.List.{List, [], _∷_}
 use lib.ListN.{length}
 use lib.Dec.{ltb, leb}
 use Rattle.bits.specs.Bits.{pick}
+use Rattle.bus.specs.declared.Window.{Window}
 use Rattle.bus.specs.declared.Flow.{Flow}
 use Rattle.bus.specs.declared.Fetched.{Fetched}
 use Rattle.bus.specs.Bus.{all-of, read-long}
@@ -19,7 +20,8 @@ use Rattle.undo.specs.declared.Answer.{Answer}
 use Rattle.undo.specs.declared.Answer.the-variants.{Done, Refused}
 use Rattle.calls.specs.declared.Manner.{Manner}
 use Rattle.calls.specs.declared.Manner.the-variants.{Dropping, Keeping}
-use Rattle.calls.specs.Calls.{state-fits, reset-slots, no-room, undo-answer}
+use Rattle.calls.specs.Calls.{state-fits, first-tests, reset-slots, no-room, undo-answer}
+use Rattle.calls.proofs.RefusalLaws.{first-passed, first-stopped}
 
 -- a refusal is given, or passed over, by its test or by the contrary of its test
 module _ {A : Type 0} (b : Bool) (x y r : A) where
@@ -43,6 +45,14 @@ module _ {A : Type 0} (b c : Bool) (x y r : A) (d : c ≡ b) where
 
   pub pass-by : c ≡ false → r ≡ y → r ≡ pick b x y
   pass-by t e = cc
+
+-- and where the first tests were: k is their number
+module _ (win : Window) (s m : List ℕ) (last k r : ℕ) (d : k ≡ first-tests win s m 0) where
+  pub first-refuses : (k ≡ 0 → ⊥) → r ≡ k → r ≡ first-tests win s m last
+  first-refuses z e = e ∙ d ∙ sym (first-stopped win s m last (λ q. z (d ∙ q)))
+
+  pub first-passes : k ≡ 0 → r ≡ last → r ≡ first-tests win s m last
+  first-passes z e = e ∙ sym (first-passed win s m last (sym d ∙ z))
 
 pub state-fits-is : (s : List ℕ) (b : Bool) → b ≡ valid-status (sr-of s) → (b && leb (mode-of s) 2) ≡ state-fits s
 state-fits-is s b e = cc

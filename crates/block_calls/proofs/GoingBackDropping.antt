@@ -1,5 +1,5 @@
 -- GoingBackDropping.antt - demand 3 for a C program whose calls drop the oldest records. What the program sees, clause by clause:
---   block, memory, journal and mark, kept between calls           x : Box, with LendsAll x: as Lends, bytes in the journal too, and the mark in it
+--   block, window, memory, journal and mark, kept between calls   x : Box, with LendsAll x: as Lends, bytes in the journal too, and the mark in it
 --   any calls of ibz_step, ibz_run and ibz_undo in any order,
 --     each given what the last left and returned                  cs : List Call, and after (ibz-calls Dropping) cs x
 --   never more steps undone than accepted, by the answers         NeverAhead (ibz-calls Dropping) cs x 0 0

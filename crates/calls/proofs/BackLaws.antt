@@ -18,14 +18,14 @@ use Rattle.undo.specs.Undo.{undo-of}
 use Rattle.undo.specs.declared.Answer.the-variants.{Done}
 use Rattle.undo.proofs.UndoLaws.{undo-of-record, undo-by-back}
 use Rattle.calls.specs.declared.Manner.{Manner}
-use Rattle.calls.specs.Calls.{RunCall}
+use Rattle.calls.specs.Calls.{RunCall, window-fits}
 use Rattle.calls.specs.History.{Machine, Request, Call, step-of, run-of, undo-once, stepping, running-on, undoing, act, Calls, machine-calls}
 use Rattle.calls.specs.History.{after, accepted, undone, NeverAhead, plain-step, left-by, standing, Seen, record-after, one-more}
 use Rattle.calls.specs.Kept.{EachCall}
 use Rattle.calls.proofs.ValidLaws.{Lent, Valid, kept-by, state-fits-when, small-enough}
 use Rattle.calls.proofs.JournalLaws.{JournalLent}
 use Rattle.calls.proofs.RefusalLaws.{run-refused, undo-accepted, undo-number-when}
-use Rattle.calls.proofs.ActLaws.{machine-at, act-step-refused, act-run-refused, act-undo-refused, valid-after, record-after-some}
+use Rattle.calls.proofs.ActLaws.{machine-at, act-step-refused, act-run-refused, act-undo-refused, valid-after, window-after, record-after-some}
 use Rattle.calls.proofs.RunLaws.{one, plain, AsSteps, run-as-steps}
 
 pub mark-after : (r : Request) (a : Seen) → one-more r a .mark ≡ a .mark + length (record-after r a)
@@ -33,15 +33,15 @@ unfolding one-more
 mark-after r a = refl
 
 -- ---- the undo of one step whose record ends the journal
-module _ (r : Request) (a : Seen) (v : Valid (a .slots) (a .memory)) (j : List ℕ)
+module _ (r : Request) (a : Seen) (v : Valid (a .slots) (a .memory)) (o : window-fits (a .window) (a .memory) ≡ true) (j : List ℕ)
     (room : one-more r a .mark ≤ length j) (last : back j (one-more r a .mark) ≡ reverse (record-after r a) ++ back j (a .mark)) where
   undone-to : undo-of (one-more r a .slots) (one-more r a .memory) j (one-more r a .mark)
       ≡ record { slots = a .slots; memory = a .memory; answer = Done (a .mark) }
   unfolding one-more record-after
   undone-to =
-      let t = one-step (a .slots) (a .memory) (r .level) (r .vector) in
+      let t = one-step (a .window) (a .slots) (a .memory) (r .level) (r .vector) in
       let b = record-after r a in
-      let k = kept-by (a .slots) (a .memory) (r .level) (r .vector) v in
+      let k = kept-by (a .window) (a .slots) (a .memory) (r .level) (r .vector) v in
       let small = small-enough (a .slots) (a .memory) v in
       undo-by-back (t .s) (t .m) j (written j (a .mark) b) (a .mark + length b) room (rw (length-written j (a .mark) b room) room)
       (last ∙ sym (back-written j (a .mark) b room))
@@ -54,8 +54,8 @@ module _ (r : Request) (a : Seen) (v : Valid (a .slots) (a .memory)) (j : List �
       let w = valid-after r a v in
       let fits = state-fits-when (one-more r a .slots) (one-more r a .memory) w in
       let some : one-more r a .mark ≡ 0 → ⊥ = λ e. omega (arith, mark-after r a, record-after-some r a) in
-      undo-accepted (one-more r a .slots) (one-more r a .memory) j (one-more r a .mark) (a .mark) (a .slots) (a .memory)
-      (undo-number-when (one-more r a .slots) (one-more r a .memory) j (one-more r a .mark) (w .fits) fits room some)
+      undo-accepted (one-more r a .window) (one-more r a .slots) (one-more r a .memory) j (one-more r a .mark) (a .mark) (a .slots) (a .memory)
+      (undo-number-when (one-more r a .window) (one-more r a .slots) (one-more r a .memory) j (one-more r a .mark) (w .fits) fits (window-after r a v o) room some)
       undone-to
 
 -- ---- any call at all
@@ -119,7 +119,7 @@ module _ (w : Manner) (P : Call → Machine → Type 0) (At : Machine → List R
       go false q =
           let refused = eqb-false (running-on w budget stop x .a .number) 0 q in
           let none-taken : running-on w budget stop x .a .steps ≡ 0 =
-          ap (λ (c : RunCall). c .a .steps) (run-refused (x .slots) (x .memory) budget (x .journal) (x .mark) w stop refused) in
+          ap (λ (c : RunCall). c .a .steps) (run-refused (x .window) (x .slots) (x .memory) budget (x .journal) (x .mark) w stop refused) in
           rw (none-taken, act-run-refused w budget stop x refused) (a, omega arith)
   call-at undo-once x rs n u a e h p = go (eqb (undoing x .a .number) 0) refl rs a e
     where

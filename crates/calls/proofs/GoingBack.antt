@@ -12,6 +12,7 @@
 -- Source: [00 demand 3].
 use Prim.Native.Nat.{ℕ, _+_, _≤_}
 use mathlib.Core.Path.{_≡_, refl, sym, ap, subst, _∙_}
+use mathlib.Core.Bool.{true}
 use mathlib.Core.List.{List, [], _∷_, _++_, reverse}
 use native.Mathlib.Omega.{arith}
 use lib.ListN.{length}
@@ -19,11 +20,11 @@ use Rattle.numbers.specs.Number.{written, back}
 use Rattle.numbers.proofs.WrittenLaws.{back-written, length-written}
 use Rattle.undo.proofs.UndoLaws.{back-below}
 use Rattle.calls.specs.declared.Manner.the-variants.{Keeping}
-use Rattle.calls.specs.Calls.{UndoCall}
+use Rattle.calls.specs.Calls.{UndoCall, window-fits}
 use Rattle.calls.specs.History.{Machine, Request, Call, step-of, undo-once, stepping, undoing, act, machine-calls, after}
 use Rattle.calls.specs.History.{NeverAhead, standing, Seen, seen, record-after, one-more, taken-alone}
 use Rattle.calls.proofs.ValidLaws.{Lent, Valid}
-use Rattle.calls.proofs.ActLaws.{machine-at, act-step, step-valid, step-room, lent-after}
+use Rattle.calls.proofs.ActLaws.{machine-at, act-step, step-valid, step-window, step-room, lent-after}
 use Rattle.calls.proofs.BackLaws.{mark-after, undoing-to, any-calls, history-at}
 
 -- ---- a history from one start
@@ -36,6 +37,7 @@ module _ (x₀ : Machine) (lent : Lent (x₀ .slots) (x₀ .memory)) where
   Holds j [] = Unit {0}
   Holds j (r ∷ rs) =
       Valid (alone rs .slots) (alone rs .memory)
+      × (window-fits (alone rs .window) (alone rs .memory) ≡ true)
       × (one-more r (alone rs) .mark ≤ length j)
       × (back j (one-more r (alone rs) .mark) ≡ reverse (record-after r (alone rs)) ++ back j (alone rs .mark))
       × Holds j rs
@@ -56,9 +58,10 @@ module _ (x₀ : Machine) (lent : Lent (x₀ .slots) (x₀ .memory)) where
   holds-below j i (r ∷ rs) l same h =
       let grown : alone rs .mark ≤ one-more r (alone rs) .mark = omega (arith, mark-after r (alone rs)) in (
         h .0,
-        omega (arith, h .1),
-        same (one-more r (alone rs) .mark) (omega arith) ∙ h .2 ∙ ap (λ (b : List ℕ). reverse (record-after r (alone rs)) ++ b) (sym (same (alone rs .mark) grown)),
-        holds-below j i rs l (λ e q. same e (omega arith)) (h .3),
+        h .1,
+        omega (arith, h .2),
+        same (one-more r (alone rs) .mark) (omega arith) ∙ h .3 ∙ ap (λ (b : List ℕ). reverse (record-after r (alone rs)) ++ b) (sym (same (alone rs .mark) grown)),
+        holds-below j i rs l (λ e q. same e (omega arith)) (h .4),
       )
 
   -- ---- each call
@@ -80,6 +83,7 @@ module _ (x₀ : Machine) (lent : Lent (x₀ .slots) (x₀ .memory)) where
           is = act-step Keeping r here ok;
           holds = (
             step-valid Keeping (r .level) (r .vector) here l ok,
+            step-window Keeping (r .level) (r .vector) here ok,
             omega (arith, room, same-length, next),
             rw next (back-written j (a .mark) b room ∙ ap (λ (p : List ℕ). reverse b ++ p) (sym (back-below j (a .mark) b (a .mark) (omega arith) (omega arith)))),
             holds-below j w rs same-length (λ e q. back-below j (a .mark) b e q (omega arith)) h,
@@ -103,15 +107,15 @@ module _ (x₀ : Machine) (lent : Lent (x₀ .slots) (x₀ .memory)) where
   undoing-at : (x : Machine) (r : Request) (rs : List Request) → At x (r ∷ rs) → undoing x ≡ record { s = alone rs .slots; m = alone rs .memory; a = record { number = 0; mark = alone rs .mark } }
   undoing-at x r rs a =
       let h = a .holds in
-      ap undoing (a .is) ∙ undoing-to r (alone rs) (h .0) (a .journal) (h .1) (h .2)
+      ap undoing (a .is) ∙ undoing-to r (alone rs) (h .0) (h .1) (a .journal) (h .2) (h .3)
 
   undo-at : (x : Machine) (r : Request) (rs : List Request) → At x (r ∷ rs) → At (act Keeping undo-once x) rs
-  unfolding act
+  unfolding act one-more
   undo-at x r rs a =
       record {
         journal = x .journal;
-        is = ap (λ (c : UndoCall). record { slots = c .s; memory = c .m; journal = x .journal; mark = c .a .mark }) (undoing-at x r rs a);
-        holds = subst (λ (j : List ℕ). Holds j rs) (sym (ap (λ (y : Machine). y .journal) (a .is))) (a .holds .3);
+        is = λ i. let c = undoing-at x r rs a i in record { window = a .is i .window; slots = c .s; memory = c .m; journal = x .journal; mark = c .a .mark };
+        holds = subst (λ (j : List ℕ). Holds j rs) (sym (ap (λ (y : Machine). y .journal) (a .is))) (a .holds .4);
       }
 
   -- ---- all of a history

@@ -27,17 +27,17 @@ use Rattle.calls.specs.History.{Machine, Request, step-of, stepping, und
 use Rattle.calls.specs.History.{Seen, seen, record-after, one-more, taken-alone}
 use Rattle.calls.specs.Kept.{records-alone, LeftOver}
 use Rattle.calls.proofs.ValidLaws.{Lent, small-enough, state-fits-when}
-use Rattle.calls.proofs.RefusalLaws.{step-inv, undo-verdict, no-bad-memory, no-bad-state}
+use Rattle.calls.proofs.RefusalLaws.{step-inv, undo-verdict, no-bad-memory, no-bad-state, no-bad-window}
 use Rattle.calls.proofs.JournalLaws.{room-number}
 use Rattle.calls.proofs.ActLaws.{room-at, seen-at, act-step, step-number-zero, step-valid, step-room}
-use Rattle.calls.proofs.ActLaws.{valid-after, journal-lent-after}
+use Rattle.calls.proofs.ActLaws.{valid-after, window-after, step-window, journal-lent-after}
 use Rattle.calls.proofs.BackLaws.{undoing-to}
 use Rattle.calls.proofs.KeptLaws.{AllValid, lent-alone, memory-alone, rows-alone, records-as-rows, rows-alone-good, rows-alone-drop}
 use Rattle.calls.proofs.KeptLaws.{older, left-over-drop}
 
 -- a machine with the slots and the memory that are seen, and another mark
 abbrev pub placed : Seen → List ℕ → ℕ → Machine
-placed a j mark = record { slots = a .slots; memory = a .memory; journal = j; mark = mark }
+placed a j mark = record { window = a .window; slots = a .slots; memory = a .memory; journal = j; mark = mark }
 
 empty-part : (p q : List ℕ) → p ++ q ≡ [] → q ≡ []
 empty-part [] q e = e
@@ -94,16 +94,16 @@ module _ (x₀ : Machine) where
         ≡ record { s = alone rs .slots; m = alone rs .memory; a = record { number = 0; mark = length under } }
     unfolding one-more record-after
     undoing-kept =
-        let b : Seen = record { slots = alone rs .slots; memory = alone rs .memory; mark = length under } in
+        let b : Seen = record { window = alone rs .window; slots = alone rs .slots; memory = alone rs .memory; mark = length under } in
         let ends : back j (length under + length last) ≡ reverse last ++ back j (length under) =
         ap (back j) tall ∙ back-as-reverse j mark ∙ ap reverse stacked ∙ reverse-append under last
         ∙ ap (λ (l : List ℕ). reverse last ++ l) (ap reverse (sym lower) ∙ sym (back-as-reverse j (length under))) in
-        ap (λ (n : ℕ). undoing (placed (alone (r ∷ rs)) j n)) (sym tall) ∙ undoing-to r b (h .valid .0) j (omega (arith, tall, h .below)) ends
+        ap (λ (n : ℕ). undoing (placed (alone (r ∷ rs)) j n)) (sym tall) ∙ undoing-to r b (h .valid .0) (h .valid .1) j (omega (arith, tall, h .below)) ends
 
     abbrev pub undo-kept : Holds j (length under) rs
     undo-kept =
         record {
-          valid = h .valid .1;
+          valid = h .valid .2;
           kept = k;
           rest = h .rest;
           few = omega (arith, h .few);
@@ -124,10 +124,11 @@ module _ (x₀ : Machine) where
       let empty : length (records (h .kept) (r ∷ rs)) ≡ 0 = ap (λ (n : ℕ). length (records n (r ∷ rs))) z in
       let at-0 : mark ≡ 0 =
       omega (arith, ap length (h .bytes), length-append (h .rest) (records (h .kept) (r ∷ rs)), length-take-le mark j (h .below)) in
-      undo-verdict (a .slots) (a .memory) j mark .exactly 7 .1
+      undo-verdict (a .window) (a .slots) (a .memory) j mark .exactly 7 .1
       (later (no-bad-memory (a .memory) (v .fits))
       (later (no-bad-state (a .slots) (state-fits-when (a .slots) (a .memory) v))
-      (later (λ q. omega (arith, h .below)) (this at-0 refl))))
+      (later (no-bad-window (a .window) (a .memory) (window-after r (alone rs) (h .valid .0) (h .valid .1)))
+      (later (λ q. omega (arith, h .below)) (this at-0 refl)))))
 
   -- ---- an accepted step
   module _ (lent : Lent (x₀ .slots) (x₀ .memory)) (octets : ValidBytes (x₀ .journal)) (inside : x₀ .mark ≤ length (x₀ .journal)) where
@@ -157,7 +158,7 @@ module _ (x₀ : Machine) where
         ours = rows-alone (h .kept) rs (seen x₀)
 
         small : len ≤ 2 ^ 32
-        small = omega (arith, small-enough (alone rs .slots) (alone rs .memory) (valid .0), memory-alone rs (seen x₀) (valid .1))
+        small = omega (arith, small-enough (alone rs .slots) (alone rs .memory) (valid .0), memory-alone rs (seen x₀) (valid .2))
 
         octets-below : Bytes (back j mark)
         octets-below = bytes-of-back j mark (bytes-when-valid j (h .lent-journal)) (h .below)
@@ -235,12 +236,12 @@ module _ (x₀ : Machine) where
           let c = room-at Dropping here in
           let b = seen-at Dropping here in
           let v = step-valid Dropping (r .level) (r .vector) here lent-here ok in
-          let i = step-inv Dropping (here .slots) (here .memory) (r .level) j mark (step-number-zero Dropping (r .level) (r .vector) here ok) in
+          let i = step-inv Dropping (here .window) (here .slots) (here .memory) (r .level) j mark (step-number-zero Dropping (r .level) (r .vector) here ok) in
           let fits : length (here .memory) ≤ 2 ^ 32 = omega (arith, small-enough (here .slots) (here .memory) v) in
           let number = room-number (length (here .memory)) j mark fits (h .below) Dropping (h .lent-journal) (i .4) (i .6) in
           let is = act-step Dropping r here ok in
           let next-lent = subst (λ (y : Machine). ValidBytes (y .journal)) is (journal-lent-after Dropping r here lent-here (h .lent-journal) ok) in
-          let valid : AllValid (r ∷ rs) (seen x₀) = (v, h .valid) in
+          let valid : AllValid (r ∷ rs) (seen x₀) = (v, step-window Dropping (r .level) (r .vector) here ok, h .valid) in
           let same-size = memory-alone rs (seen x₀) (h .valid) in
           let go =
           subst (λ (n : ℕ). make-room n j mark .a .number ≡ 0 → Next r rs valid j mark h (make-room n j mark)) (sym same-size)

@@ -19,6 +19,7 @@ use Rattle.oldest.specs.Room.{Row, row-bytes, rows-bytes, rows, read-rows, rows
 use Rattle.oldest.proofs.RowLaws.{Good, AllGood, back-as-reverse, rows-bytes-append, good-append, older-when-read, bytes-of-rows}
 use Rattle.oldest.proofs.RowLaws.{rows-read, rows-count, rows-of-bytes, good-drop}
 use Rattle.oldest.proofs.RoomLaws.{Made, there, refused, on-the-way, dropping, made-cases}
+use Rattle.calls.specs.Calls.{window-fits}
 use Rattle.calls.specs.History.{Machine, Request, Seen, record-after, one-more, taken-alone}
 use Rattle.calls.specs.Kept.{records-alone, LeftOver, all-of-it, but-the-oldest}
 use Rattle.calls.proofs.ValidLaws.{Lent, Valid, kept-by}
@@ -26,10 +27,11 @@ use Rattle.calls.proofs.JournalLaws.{row-after, row-after-bytes, row-af
 use Rattle.calls.proofs.ActLaws.{lent-after, record-after-some}
 use Rattle.calls.proofs.BackLaws.{mark-after}
 
--- ---- steps taken alone, each from a valid state
+-- ---- steps taken alone, each from a valid state and with a window that fits
 abbrev pub AllValid : List Request → Seen → Type 0
 AllValid [] a = Unit {0}
-AllValid (r ∷ rs) a = Valid (taken-alone rs a .slots) (taken-alone rs a .memory) × AllValid rs a
+AllValid (r ∷ rs) a =
+    Valid (taken-alone rs a .slots) (taken-alone rs a .memory) × (window-fits (taken-alone rs a .window) (taken-alone rs a .memory) ≡ true) × AllValid rs a
 
 pub lent-alone : (rs : List Request) (a : Seen) → Lent (a .slots) (a .memory) → AllValid rs a
     → Lent (taken-alone rs a .slots) (taken-alone rs a .memory)
@@ -41,7 +43,7 @@ unfolding one-more
 memory-alone [] a h = refl
 memory-alone (r ∷ rs) a h =
     let b = taken-alone rs a in
-    kept-by (b .slots) (b .memory) (r .level) (r .vector) (h .0) .memory ∙ memory-alone rs a (h .1)
+    kept-by (b .window) (b .slots) (b .memory) (r .level) (r .vector) (h .0) .memory ∙ memory-alone rs a (h .2)
 
 -- ---- their records as rows
 abbrev pub rows-alone : ℕ → List Request → Seen → List Row
@@ -64,8 +66,8 @@ rows-alone-good zero rs a h = tt
 rows-alone-good (suc k) [] a h = tt
 rows-alone-good (suc k) (r ∷ rs) a h =
     let b = taken-alone rs a in
-    let last = subst (λ (n : ℕ). Good n (row-after r b)) (memory-alone rs a (h .1)) (row-after-good r b (h .0)) in
-    good-append (length (a .memory)) (rows-alone k rs a) (row-after r b ∷ []) (rows-alone-good k rs a (h .1)) (last, tt)
+    let last = subst (λ (n : ℕ). Good n (row-after r b)) (memory-alone rs a (h .2)) (row-after-good r b (h .0)) in
+    good-append (length (a .memory)) (rows-alone k rs a) (row-after r b ∷ []) (rows-alone-good k rs a (h .2)) (last, tt)
 
 rows-alone-length : (k : ℕ) (rs : List Request) (a : Seen) → k ≤ length rs → length (rows-alone k rs a) ≡ k
 rows-alone-length zero rs a h = refl

@@ -4,26 +4,28 @@
 use Prim.Native.Nat.{ℕ}
 use mathlib.Core.Path.{_≡_}
 use mathlib.Core.List.{List}
+use Rattle.bus.specs.declared.Window.{Window}
 use Rattle.calls.specs.declared.Manner.{Manner}
+use Rattle.calls.specs.declared.ResetAnswer.{ResetAnswer}
 use Rattle.calls.specs.declared.StepAnswer.{StepAnswer}
 use Rattle.calls.specs.declared.RunAnswer.{RunAnswer}
 use Rattle.calls.specs.declared.UndoAnswer.{UndoAnswer}
 use Rattle.calls.specs.Promises.{ResetPromise, StepPromise, RunPromise, UndoPromise}
 
-pub reset-unique : (m s₁ s₂ : List ℕ) (n₁ n₂ : ℕ) → ResetPromise m s₁ n₁ → ResetPromise m s₂ n₂ → (s₁ ≡ s₂) × (n₁ ≡ n₂)
-reset-unique m s₁ s₂ n₁ n₂ p q = (cc, cc)
+pub reset-unique : (m s₁ s₂ : List ℕ) (a₁ a₂ : ResetAnswer) → ResetPromise m s₁ a₁ → ResetPromise m s₂ a₂ → (s₁ ≡ s₂) × (a₁ ≡ a₂)
+reset-unique m s₁ s₂ a₁ a₂ p q = (cc, cc)
 
-pub step-unique : (w : Manner) (s m : List ℕ) (level vector : ℕ) (j : List ℕ) (mark : ℕ) (s₁ m₁ j₁ : List ℕ) (a₁ : StepAnswer) (s₂ m₂ j₂ : List ℕ) (a₂ : StepAnswer)
-    → StepPromise w s m level vector j mark s₁ m₁ j₁ a₁ → StepPromise w s m level vector j mark s₂ m₂ j₂ a₂
+pub step-unique : (w : Manner) (win : Window) (s m : List ℕ) (level vector : ℕ) (j : List ℕ) (mark : ℕ) (s₁ m₁ j₁ : List ℕ) (a₁ : StepAnswer) (s₂ m₂ j₂ : List ℕ) (a₂ : StepAnswer)
+    → StepPromise w win s m level vector j mark s₁ m₁ j₁ a₁ → StepPromise w win s m level vector j mark s₂ m₂ j₂ a₂
     → (s₁ ≡ s₂) × (m₁ ≡ m₂) × (j₁ ≡ j₂) × (a₁ ≡ a₂)
-step-unique w s m level vector j mark s₁ m₁ j₁ a₁ s₂ m₂ j₂ a₂ p q = (cc, cc, cc, cc)
+step-unique w win s m level vector j mark s₁ m₁ j₁ a₁ s₂ m₂ j₂ a₂ p q = (cc, cc, cc, cc)
 
-pub run-unique : (w : Manner) (s m : List ℕ) (budget stop : ℕ) (j : List ℕ) (mark : ℕ) (s₁ m₁ j₁ : List ℕ) (a₁ : RunAnswer) (s₂ m₂ j₂ : List ℕ) (a₂ : RunAnswer)
-    → RunPromise w s m budget stop j mark s₁ m₁ j₁ a₁ → RunPromise w s m budget stop j mark s₂ m₂ j₂ a₂
+pub run-unique : (w : Manner) (win : Window) (s m : List ℕ) (budget stop : ℕ) (j : List ℕ) (mark : ℕ) (s₁ m₁ j₁ : List ℕ) (a₁ : RunAnswer) (s₂ m₂ j₂ : List ℕ) (a₂ : RunAnswer)
+    → RunPromise w win s m budget stop j mark s₁ m₁ j₁ a₁ → RunPromise w win s m budget stop j mark s₂ m₂ j₂ a₂
     → (s₁ ≡ s₂) × (m₁ ≡ m₂) × (j₁ ≡ j₂) × (a₁ ≡ a₂)
-run-unique w s m budget stop j mark s₁ m₁ j₁ a₁ s₂ m₂ j₂ a₂ p q = (cc, cc, cc, cc)
+run-unique w win s m budget stop j mark s₁ m₁ j₁ a₁ s₂ m₂ j₂ a₂ p q = (cc, cc, cc, cc)
 
-pub undo-unique : (s m j : List ℕ) (mark : ℕ) (s₁ m₁ : List ℕ) (a₁ : UndoAnswer) (s₂ m₂ : List ℕ) (a₂ : UndoAnswer)
-    → UndoPromise s m j mark s₁ m₁ a₁ → UndoPromise s m j mark s₂ m₂ a₂
+pub undo-unique : (win : Window) (s m j : List ℕ) (mark : ℕ) (s₁ m₁ : List ℕ) (a₁ : UndoAnswer) (s₂ m₂ : List ℕ) (a₂ : UndoAnswer)
+    → UndoPromise win s m j mark s₁ m₁ a₁ → UndoPromise win s m j mark s₂ m₂ a₂
     → (s₁ ≡ s₂) × (m₁ ≡ m₂) × (a₁ ≡ a₂)
-undo-unique s m j mark s₁ m₁ a₁ s₂ m₂ a₂ p q = (cc, cc, cc)
+undo-unique win s m j mark s₁ m₁ a₁ s₂ m₂ a₂ p q = (cc, cc, cc)

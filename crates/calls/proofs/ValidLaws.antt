@@ -1,7 +1,8 @@
 -- ValidLaws.antt - Lent: what is so of anything that is lent. Valid: what is so of it once a call accepts it. A step keeps it.
--- * valid-when-accepted, lent-when-valid, state-fits-when, fits-inv, state-inv: how each follows from the other.
--- * valid-after-step, record-room: after a step from a valid state the state is valid, and the step's record is short enough.
--- Source: [01 State], [01 The journal], [00 demand 3].
+-- * valid-when-accepted, lent-when-valid, state-fits-when, fits-inv, state-inv, window-inv: how each follows from the other.
+-- * valid-after-step, window-after-step, record-room: after a step from a valid state the state is valid, a window that fits does so still,
+--   and the step's record is short enough.
+-- Source: [01 State], [01 The journal], [00 demand 3], [K7].
 use Prim.Native.Nat.{ℕ, _%_, _^_, _≤_, _<_}
 use mathlib.Core.Path.{_≡_, refl}
 use mathlib.Core.Bool.{Bool, true, false, _&&_}
@@ -13,6 +14,7 @@ use lib.Dec.{ltb, leb, eqb}
 use borrow.Author.Tests.{le-leb, leb-true, eqb-true, ltb-true, ltb-false}
 use Rattle.codes.specs.Codes.{Sr, Mode}
 use Rattle.bits.proofs.BitsLaws.{and-left, and-right}
+use Rattle.bus.specs.declared.Window.{Window}
 use Rattle.bank.specs.Bank.{sr-of, mode-of}
 use Rattle.record.specs.Limits.{slot-limit, longest-record, valid-status, valid-value, Each, ValidSlots, ValidBytes}
 use Rattle.record.specs.Change.{step-record}
@@ -21,7 +23,7 @@ use Rattle.record.proofs.SizeLaws.{record-length, valid-slots-from}
 use Rattle.step.specs.Steps.{one-step}
 use Rattle.step.proofs.PlacesLaws.{each-at}
 use Rattle.step.proofs.KeepLaws.{Kept, one-step-keeps}
-use Rattle.calls.specs.Calls.{memory-fits, state-fits}
+use Rattle.calls.specs.Calls.{memory-fits, state-fits, window-fits}
 
 -- anything that is lent: twenty slots of 32 bits, and bytes
 pub record Lent (s m : List ℕ) : Type 0 where
@@ -52,6 +54,13 @@ state-inv s e =
     let a = valid-status (sr-of s) in
     let b = leb (mode-of s) 2 in
     (and-left a b e, leb-true (mode-of s) 2 (and-right a b e))
+
+-- a window that fits
+pub window-inv : (win : Window) (m : List ℕ) → window-fits win m ≡ true → (win .lo ≤ win .hi) × (win .hi ≤ length m)
+window-inv win m e =
+    let a = leb (win .lo) (win .hi) in
+    let b = leb (win .hi) (length m) in
+    (leb-true (win .lo) (win .hi) (and-left a b e), leb-true (win .hi) (length m) (and-right a b e))
 
 -- ---- what is lent, once it is accepted, is valid
 lent-word : (s : List ℕ) → Each (λ k v. v < 2 ^ 32) 0 s → (k : ℕ) → getD s k 0 < 2 ^ 32
@@ -96,11 +105,11 @@ module _ (s m : List ℕ) (v : Valid s m) where
   small-enough = fits-inv m (v .fits) .2
 
 -- ---- after a step
-module _ (s m : List ℕ) (level vector : ℕ) (v : Valid s m) where
-  abbrev pub kept-by : Kept s m (one-step s m level vector .s) (one-step s m level vector .m)
-  kept-by = one-step-keeps s m level vector (v .slots) (v .values) (v .bytes)
+module _ (win : Window) (s m : List ℕ) (level vector : ℕ) (v : Valid s m) where
+  abbrev pub kept-by : Kept s m (one-step win s m level vector .s) (one-step win s m level vector .m)
+  kept-by = one-step-keeps win s m level vector (v .slots) (v .values) (v .bytes)
 
-  pub valid-after-step : Valid (one-step s m level vector .s) (one-step s m level vector .m)
+  pub valid-after-step : Valid (one-step win s m level vector .s) (one-step win s m level vector .m)
   valid-after-step =
       record {
         slots = omega (arith, kept-by .slots, v .slots);
@@ -109,7 +118,11 @@ module _ (s m : List ℕ) (level vector : ℕ) (v : Valid s m) where
         fits = rw (kept-by .memory) (v .fits);
       }
 
+  -- and a window that fits does so still
+  pub window-after-step : window-fits win m ≡ true → window-fits win (one-step win s m level vector .m) ≡ true
+  window-after-step e = rw (kept-by .memory) e
+
   -- its record is at most longest-record bytes long
-  pub record-room : length (step-record s (one-step s m level vector .s) m (one-step s m level vector .m)) ≤ longest-record
+  pub record-room : length (step-record s (one-step win s m level vector .s) m (one-step win s m level vector .m)) ≤ longest-record
   record-room =
-      record-length s (one-step s m level vector .s) m (one-step s m level vector .m) (v .slots) (small-enough s m v) (kept-by .few) (v .values) (v .bytes)
+      record-length s (one-step win s m level vector .s) m (one-step win s m level vector .m) (v .slots) (small-enough s m v) (kept-by .few) (v .values) (v .bytes)

@@ -1,6 +1,6 @@
 -- Kept.antt - what a journal holds after a mix of calls in the manner that drops: the records of the last steps that stand, after what is
 -- left from before the start. Not here: what stands (History.antt), when records are dropped and which (make-room of the crate oldest).
--- Laws: proofs/KeptLaws.antt, HoldLaws.antt, GoingBackDropping.antt.  Source: [00 demand 3], [01 The journal], [K5].
+-- Laws: proofs/KeptLaws.antt, HoldLaws.antt, GoingBackDropping.antt.  Source: [00 demand 3], [01 The journal], [K5], [K7].
 use Prim.Native.Nat.{ℕ, zero, suc, _+_, _≤_, _<_}
 use mathlib.Core.Path.{_≡_}
 use mathlib.Core.List.{List, [], _∷_, _++_}
@@ -22,10 +22,11 @@ pub data LeftOver (x : Machine) (rest : List ℕ) : Type 0 where
   but-the-oldest : (olds : List Row) (k : ℕ) → rows-of (length (x .memory)) (x .journal) (x .mark) ≡ rows olds
       → rest ≡ rows-bytes (drop k olds) → LeftOver x rest
 
--- From x₀, where the steps rs stand: x has the state and the memory of these steps taken alone; below its mark are, after what is left
--- from before the start, the records of the last `kept` of them; and nothing is left from before once one of theirs is dropped.
--- [00 demand 3] [K5]
+-- From x₀, where the steps rs stand: x has the window, the state and the memory of these steps taken alone; below its mark are, after what
+-- is left from before the start, the records of the last `kept` of them; and nothing is left from before once one of theirs is dropped.
+-- [00 demand 3] [K5] [K7]
 pub record KeptRecords (x₀ x : Machine) (rs : List Request) : Type 0 where
+  pub window : x .window ≡ taken-alone rs (seen x₀) .window
   pub slots : x .slots ≡ taken-alone rs (seen x₀) .slots
   pub memory : x .memory ≡ taken-alone rs (seen x₀) .memory
   pub kept : ℕ

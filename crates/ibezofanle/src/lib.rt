@@ -58,7 +58,8 @@ pub extern "C" fn ibz_step(
         };
     }
     let mut slots = block::slots_in(block);
-    let a = machine::step(&mut slots, Window { lo, hi }, memory, level, vector, journal, mark);
+    let win = Window { lo, hi };
+    let a = machine::step(&mut slots, win, memory, level, vector, journal, mark);
     block::put_block(block, &slots);
     a
 }
@@ -88,7 +89,8 @@ pub extern "C" fn ibz_run(
         };
     }
     let mut slots = block::slots_in(block);
-    let a = machine::run(&mut slots, Window { lo, hi }, memory, budget, stop, journal, mark);
+    let win = Window { lo, hi };
+    let a = machine::run(&mut slots, win, memory, budget, stop, journal, mark);
     block::put_block(block, &slots);
     a
 }
@@ -119,7 +121,8 @@ pub extern "C" fn ibz_step_keeping(
         };
     }
     let mut slots = block::slots_in(block);
-    let a = keeping::step_keeping(&mut slots, Window { lo, hi }, memory, level, vector, journal, mark);
+    let win = Window { lo, hi };
+    let a = keeping::step_keeping(&mut slots, win, memory, level, vector, journal, mark);
     block::put_block(block, &slots);
     a
 }
@@ -149,7 +152,8 @@ pub extern "C" fn ibz_run_keeping(
         };
     }
     let mut slots = block::slots_in(block);
-    let a = keeping::run_keeping(&mut slots, Window { lo, hi }, memory, budget, stop, journal, mark);
+    let win = Window { lo, hi };
+    let a = keeping::run_keeping(&mut slots, win, memory, budget, stop, journal, mark);
     block::put_block(block, &slots);
     a
 }
@@ -174,7 +178,8 @@ pub extern "C" fn ibz_undo(
         };
     }
     let mut slots = block::slots_in(block);
-    let a = machine::undo(&mut slots, Window { lo, hi }, memory, journal, mark);
+    let win = Window { lo, hi };
+    let a = machine::undo(&mut slots, win, memory, journal, mark);
     block::put_block(block, &slots);
     a
 }

@@ -1,4 +1,4 @@
-use Rattle.answers.proofs.NumberLaws.{pass, pass-not, refuse, refuse-not}
+use Rattle.answers.proofs.NumberLaws.{pass, refuse, first-passes, first-refuses}
 use Rattle.calls.specs.Calls.{run-number}
 use borrow.Author.Needs.{needs}
 use Rattle.answers.proofs.run_number.Statement.{statement}
@@ -8,7 +8,6 @@ pub run-number-spec : {M : Type 1} → statement M
 unfolding run-number
 run-number-spec =
     tie.close (tie.spec
-    (λ c κs. search needs) (λ c. search (refuse-not, pass-not, refuse, pass))
-    (λ c κs. search needs) (λ c. search (refuse-not, pass-not, refuse, pass))
-    (λ c. search (refuse-not, pass-not, refuse, pass)) (λ c. search (refuse-not, pass-not, refuse, pass))
-    (λ c. search (refuse-not, pass-not, refuse, pass)))
+    (λ c κs. search needs) (λ c. search first-refuses)
+    (λ c. search (first-passes, refuse, pass)) (λ c. search (first-passes, refuse, pass))
+    (λ c. search (first-passes, refuse, pass)))

@@ -23,7 +23,7 @@ torn : tie.Need-returns-2
 torn c =
     let z = c .before .before .before .before .before .before .before .before in
     let k = z .pre .1 .1 in
-    full-torn _ _ _ _ _ (c .before .before .note-posts .ensures) (c .if1 .left) _ _ _ _ _ _ refl (k .0) (k .1) (k .2) (z .pre .0 .4) (k .3)
+    full-torn _ _ _ _ _ (c .before .before .note-posts .ensures) (c .if1 .left) _ _ _ _ _ _ _ refl (k .0) (k .1) (k .2) (z .pre .0 .4) (k .3)
 
 pub running-full-spec : {M : Type 1} → statement M
 running-full-spec =

@@ -11,12 +11,12 @@ use Rattle.calls.specs.declared.Manner.the-variants.{Dropping}
 use Rattle.calls.specs.Calls.{running}
 
 abbrev Inv-loop : tie.InvT-loop
-Inv-loop slots₀ memory₀ budget stop journal₀ mark done clocks log₀ h spread posts₀ near₀ size long len n₀ c₀ m₀ b₀ i₀ base₀ moved₀ dropped₀ slots memory journal log posts near n c m b i base moved dropped =
-    Going budget stop (running Dropping (budget - done) done clocks 0 0 stop slots₀ memory₀ journal₀ mark) h mark
+Inv-loop slots₀ win memory₀ budget stop journal₀ mark done clocks log₀ h spread posts₀ near₀ size long len n₀ c₀ m₀ b₀ i₀ base₀ moved₀ dropped₀ slots memory journal log posts near n c m b i base moved dropped =
+    Going win budget stop (running Dropping win (budget - done) done clocks 0 0 stop slots₀ memory₀ journal₀ mark) h mark
     memory₀ journal₀ log₀ posts₀ near₀ slots memory journal log posts near n c m b i base moved dropped
 
 abbrev μ-loop : tie.MeasureT-loop
-μ-loop slots₀ memory₀ budget stop journal₀ mark done clocks log₀ h spread posts₀ near₀ size long len n₀ c₀ m₀ b₀ i₀ base₀ moved₀ dropped₀ slots memory journal log posts near n c m b i base moved dropped = budget - n
+μ-loop slots₀ win memory₀ budget stop journal₀ mark done clocks log₀ h spread posts₀ near₀ size long len n₀ c₀ m₀ b₀ i₀ base₀ moved₀ dropped₀ slots memory journal log posts near n c m b i base moved dropped = budget - n
 
 loop-holds : tie.Need-loop-holds Inv-loop μ-loop
 loop-holds c =
@@ -25,7 +25,7 @@ loop-holds c =
     let p = z .pre .0 in
     let q = z .pre .1 .0 in
     let k = z .pre .1 .1 in
-    going-start _ _ _ _ _ _ _ _ _ _ _ _ (valid-lent _ _ (t .0) (t .1) (c .bytes .ensures .1) (p .0) (p .3)) (p .1) (p .2) (p .4) (q .0) (q .1) (q .2) (k .0) (k .4)
+    going-start _ _ _ _ _ _ _ _ _ _ _ _ _ (valid-lent _ _ (t .0) (t .1) (c .bytes .ensures .1) (p .0) (p .3)) (p .1) (p .2) (p .4) (q .0) (q .1) (q .2) (k .0) (k .4)
 
 -- a journal has fewer than 2 to the 63rd bytes
 small : (z : tie.Start Inv-loop μ-loop) → z .args .mark < 2 ^ 63

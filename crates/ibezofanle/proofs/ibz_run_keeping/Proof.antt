@@ -5,7 +5,7 @@ use Rattle.ibezofanle.proofs.ibz_run_keeping.Statement.{statement}
 use Rattle.ibezofanle.proofs.ibz_run_keeping.Tie as tie
 
 returns : tie.Need-returns
-returns c = ibz-run-nine _ _ _ _ _ _ _ (c .if1 .taken)
+returns c = ibz-run-nine _ _ _ _ _ _ _ _ (c .if1 .taken)
 
 returns-2 : tie.Need-returns-2
 returns-2 c =
@@ -13,7 +13,7 @@ returns-2 c =
     let called = written .before .before .before .before .before .before .before in
     let read = called .before .before .before .before in
     let fits = read .before .before .if1 .left in
-    ibz-run-held _ _ _ _ _ _ _ fits _ _ _ _ _ (read .slots-in .ensures) (called .run-keeping .ensures) _ (written .put-block .ensures)
+    ibz-run-held _ _ _ _ _ _ _ _ fits _ _ _ _ _ (read .slots-in .ensures) (called .run-keeping .ensures) _ (written .put-block .ensures)
 
 pub ibz-run-keeping-spec : {M : Type 1} → statement M
 ibz-run-keeping-spec =

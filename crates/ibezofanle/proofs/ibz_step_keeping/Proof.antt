@@ -5,7 +5,7 @@ use Rattle.ibezofanle.proofs.ibz_step_keeping.Statement.{statement}
 use Rattle.ibezofanle.proofs.ibz_step_keeping.Tie as tie
 
 returns : tie.Need-returns
-returns c = ibz-step-nine _ _ _ _ _ _ _ (c .if1 .taken)
+returns c = ibz-step-nine _ _ _ _ _ _ _ _ (c .if1 .taken)
 
 returns-2 : tie.Need-returns-2
 returns-2 c =
@@ -13,7 +13,7 @@ returns-2 c =
     let called = written .before .before .before .before .before .before .before in
     let read = called .before .before .before .before in
     let fits = read .before .before .if1 .left in
-    ibz-step-held _ _ _ _ _ _ _ fits _ _ _ _ _ (read .slots-in .ensures) (called .step-keeping .ensures) _ (written .put-block .ensures)
+    ibz-step-held _ _ _ _ _ _ _ _ fits _ _ _ _ _ (read .slots-in .ensures) (called .step-keeping .ensures) _ (written .put-block .ensures)
 
 pub ibz-step-keeping-spec : {M : Type 1} → statement M
 ibz-step-keeping-spec =

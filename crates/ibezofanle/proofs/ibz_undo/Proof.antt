@@ -5,7 +5,7 @@ use Rattle.ibezofanle.proofs.ibz_undo.Statement.{statement}
 use Rattle.ibezofanle.proofs.ibz_undo.Tie as tie
 
 returns : tie.Need-returns
-returns c = ibz-undo-nine _ _ _ _ (c .if1 .taken)
+returns c = ibz-undo-nine _ _ _ _ _ (c .if1 .taken)
 
 returns-2 : tie.Need-returns-2
 returns-2 c =
@@ -13,7 +13,7 @@ returns-2 c =
     let called = written .before .before .before .before .before in
     let read = called .before .before .before in
     let fits = read .before .before .if1 .left in
-    ibz-undo-held _ _ _ _ fits _ _ _ _ (read .slots-in .ensures) (called .undo .ensures) _ (written .put-block .ensures)
+    ibz-undo-held _ _ _ _ _ fits _ _ _ _ (read .slots-in .ensures) (called .undo .ensures) _ (written .put-block .ensures)
 
 pub ibz-undo-spec : {M : Type 1} → statement M
 ibz-undo-spec =

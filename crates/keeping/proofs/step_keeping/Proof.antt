@@ -6,7 +6,7 @@ use Rattle.keeping.proofs.step_keeping.Tie as tie
 step-taken-requires : tie.Need-step-taken-requires
 step-taken-requires c κs =
     let d = c .before .before .before .before .before in
-    let q = step-may _ _ _ 0 _ _ _ (d .before .step-number .ensures) (d .if1 .taken) in
+    let q = step-may _ _ _ _ 0 _ _ _ (d .before .step-number .ensures) (d .if1 .taken) in
     (q .0, q .1, search needs, q .2)
 
 pub step-keeping-spec : {M : Type 1} → statement M

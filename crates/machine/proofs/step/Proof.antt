@@ -6,13 +6,13 @@ use Rattle.machine.proofs.step.Tie as tie
 make-room-requires : tie.Need-make-room-requires
 make-room-requires c κs =
     let d = c .before .before .before in
-    step-inside _ _ _ 0 _ _ _ (d .before .step-number .ensures) (d .if1 .taken)
+    step-inside _ _ _ _ 0 _ _ _ (d .before .step-number .ensures) (d .if1 .taken)
 
 torn : tie.Need-returns
 torn c =
     let r = c .before .before .before .before in
     let d = c .before .before .before .before .before .before .before .before in
-    step-torn-promised _ _ _ _ _ _ _ (d .before .step-number .ensures) (d .if1 .taken) _ _ (r .make-room .ensures) (c .if2 .taken)
+    step-torn-promised _ _ _ _ _ _ _ _ (d .before .step-number .ensures) (d .if1 .taken) _ _ (r .make-room .ensures) (c .if2 .taken)
 
 step-taken-requires : tie.Need-step-taken-requires
 step-taken-requires c κs =
@@ -20,7 +20,7 @@ step-taken-requires c κs =
     let r = c .before .before .before .before .before .before .before .before .before in
     let b = c .before .before .before .before .before .before .before .before .before .before .before in
     let d = c .before .before .before .before .before .before .before .before .before .before .before .before .before in
-    let q = step-may _ _ _ 0 _ _ _ (d .before .step-number .ensures) (d .if1 .taken) _ _ (r .make-room .ensures) (t .if2 .left) (b .bytes .ensures .1) in
+    let q = step-may _ _ _ _ 0 _ _ _ (d .before .step-number .ensures) (d .if1 .taken) _ _ (r .make-room .ensures) (t .if2 .left) (b .bytes .ensures .1) in
     (q .0, q .1, search needs, q .2)
 
 taken : tie.Need-returns-2
@@ -31,7 +31,7 @@ taken c =
     let r = c .before .before .before .before .before .before .before .before .before .before .before .before .before .before .before in
     let d = c .before .before .before .before .before .before .before .before .before .before .before .before .before .before .before .before .before .before .before in
     let z = c .before .before .before .before .before .before .before .before .before .before .before .before .before .before .before .before .before .before .before .before .before .before .before .before .before .before in
-    step-promised _ _ _ (z .args .vector) _ _ _ (d .before .step-number .ensures) (d .if1 .taken) _ _ (r .make-room .ensures) (t .if2 .left) (w .wide .result) (w .wide .ensures .0) _ _ _ _ (e .0) (e .1 .0) (e .1 .1 .0) (e .1 .1 .1 .0)
+    step-promised _ _ _ _ (z .args .vector) _ _ _ (d .before .step-number .ensures) (d .if1 .taken) _ _ (r .make-room .ensures) (t .if2 .left) (w .wide .result) (w .wide .ensures .0) _ _ _ _ (e .0) (e .1 .0) (e .1 .1 .0) (e .1 .1 .1 .0)
 
 pub step-spec : {M : Type 1} → statement M
 step-spec =

@@ -25,12 +25,12 @@ put-record-requires : tie.Need-put-record-requires
 put-record-requires c κs =
     let o = c .before .before .before .before .before .before .before .before .before in
     let e = o .one-step .ensures in
-    (log-done _ _ _ _ _ (e .1 .1 .1 .0), record-fits _ _ (now (z o .args .journal)) _ _ _ _ (valid o) (z o .pre .1) _ _ _ _ _ _ e)
+    (log-done _ _ _ _ _ (e .1 .1 .1 .0), record-fits _ _ _ (now (z o .args .journal)) _ _ _ _ (valid o) (z o .pre .1) _ _ _ _ _ _ e)
 
 returns : tie.Need-returns
 returns c =
     let o = c .before .before .before .before .before .before .before .before .before .before .before .before in
-    taken _ _ _ _ _ _ _ (valid o) (z o .pre .1) _ _ _ _ _ _ (o .one-step .ensures) _ _ (c .before .before .put-record .ensures)
+    taken _ _ _ _ _ _ _ _ (valid o) (z o .pre .1) _ _ _ _ _ _ (o .one-step .ensures) _ _ (c .before .before .put-record .ensures)
 
 pub step-taken-spec : {M : Type 1} → statement M
 step-taken-spec =
