@@ -1,3 +1,4 @@
 pub mod ViewLaws
 pub mod NameLaws
 pub mod QuietLaws
+pub mod WriteLaws
