@@ -2,3 +2,4 @@ pub mod ViewLaws
 pub mod NameLaws
 pub mod QuietLaws
 pub mod WriteLaws
+pub mod OneLaws
