@@ -3,3 +3,6 @@ pub mod NameLaws
 pub mod QuietLaws
 pub mod WriteLaws
 pub mod OneLaws
+pub mod AcceptLaws
+pub mod RecordLaws
+pub mod FenceLaws
