@@ -131,3 +131,189 @@ module _ (x y : Machine) (h : AlikeMachines x y) where
       let sr = same-sr (x .window) (x .slots) (y .slots) (x .memory) (y .memory) (h .states) in
       let mode = same-mode (x .window) (x .slots) (y .slots) (x .memory) (y .memory) (h .states) in
       cc (sr, mode, same-room w, h .states .memory .long, h .window, h .journal, h .mark)
+
+-- two machines are alike either way round
+pub alike-back : (x y : Machine) → AlikeMachines x y → AlikeMachines y x
+alike-back x y h =
+    let a = h .states in
+    record {
+      window = sym (h .window);
+      states =
+          record {
+            user = user-too (x .window) (x .slots) (y .slots) (x .memory) (y .memory) a;
+            slots = sym (a .slots);
+            memory =
+                record {
+                  long = sym (a .memory .long);
+                  bytes = λ i l u. sym (a .memory .bytes i (rw (h .window) l) (rw (h .window) u));
+                };
+          };
+      journal = sym (h .journal);
+      mark = sym (h .mark);
+    }
+
+-- a journal that is torn is short of room
+torn-short : (w : Manner) (len : ℕ) (j : List ℕ) (mark : ℕ) → torn-way w len j mark ≡ true → length j - mark < longest-record
+torn-short Dropping len j mark t = ltb-true (length j - mark) longest-record (and-left (ltb (length j - mark) longest-record) (is-torn (rows-of len j mark)) t)
+torn-short Keeping len j mark t = absurd (let z : _≡_ {A = ℕ} 0 1 = cc (t) in omega (arith, z))
+
+module _ (w : Manner) (q : Request) where
+  abbrev torn-of : Machine → Bool
+  torn-of x = torn-way w (length (x .memory)) (x .journal) (x .mark)
+
+  number-by : (x : Machine) (b : Bool) → torn-of x ≡ b → number-of w q x ≡ step-tests w (x .window) (x .slots) (x .memory) (q .level) (x .journal) (x .mark) (pick b 8 0)
+  unfolding step-number
+  number-by x b e = cc
+
+  -- torn in one alone: then a test before it gave the number, or the other dropped records
+  number-apart : (x y : Machine) → AlikeMachines x y → answer-to w q y .dropped ≡ 0 → torn-of x ≡ true → torn-of y ≡ false → number-of w q x ≡ number-of w q y
+  unfolding tests
+  number-apart x y h d a b = go (tests-last w (x .window) (x .slots) (x .memory) (q .level) (x .journal) (x .mark))
+    where
+      go : Last (step-tests w (x .window) (x .slots) (x .memory) (q .level) (x .journal) (x .mark)) → number-of w q x ≡ number-of w q y
+      go (passes p) =
+          let z : number-of w q y ≡ 0 = number-by y false b ∙ sym (same-tests x y h w q 0) ∙ p 0 in
+          let f = room-free w q y (ap (λ (n : ℕ). eqb n 0) z) d in
+          absurd (omega (arith, f, torn-short w (length (x .memory)) (x .journal) (x .mark) a, h .journal, h .mark))
+      go (stops p) = number-by x true a ∙ p 8 0 ∙ same-tests x y h w q 0 ∙ sym (number-by y false b)
+
+  pub same-number : (x y : Machine) → AlikeMachines x y → answer-to w q x .dropped ≡ 0 → answer-to w q y .dropped ≡ 0 → number-of w q x ≡ number-of w q y
+  unfolding tests
+  same-number x y h d e = go (torn-of x) (torn-of y) refl refl
+    where
+      go : (b c : Bool) → torn-of x ≡ b → torn-of y ≡ c → number-of w q x ≡ number-of w q y
+      go true true a b = number-by x true a ∙ same-tests x y h w q 8 ∙ sym (number-by y true b)
+      go false false a b = number-by x false a ∙ same-tests x y h w q 0 ∙ sym (number-by y false b)
+      go true false a b = number-apart x y h e a b
+      go false true a b = sym (number-apart y x (alike-back x y h) d b a)
+
+-- ---- one call on two machines that are alike
+-- what a step that drops nothing leaves of the journal
+module _ (w : Manner) (q : Request) (x : Machine) (f : Fit x) (h : eqb (number-of w q x) 0 ≡ true) (e : answer-to w q x .dropped ≡ 0) where
+  pub record-room : x .mark + length (record-of-it w q x) ≤ length (x .journal)
+  record-room =
+      let r = record-fits (x .slots) (x .memory) (ready-accepted w q x f h) (x .window) (q .level) (q .vector) in
+      omega (arith, r, room-free w q x h e, accepted-facts w q x h .inside)
+
+  pub plain-next : next w q x ≡ called w q x (plain-call w q x h e)
+  plain-next = next-is w q x ∙ ap (called w q x) (taken-plainly w q x h e)
+
+  pub plain-told : answer-to w q x ≡ plain-answer w q x h e
+  plain-told = ap (λ (c : StepCall). c .a) (taken-plainly w q x h e)
+
+  record-is : record-left w q x ≡ record-of-it w q x
+  record-is =
+      let b = record-of-it w q x in
+      ap (λ (z : Machine). slice (x .mark) (z .mark) (z .journal)) plain-next
+      ∙ ap (lib.ListN.drop (x .mark)) (take-written (x .journal) (x .mark) b record-room)
+      ∙ drop-at (take (x .mark) (x .journal)) b (x .mark) (length-take-le (x .mark) (x .journal) (accepted-facts w q x h .inside))
+
+record-none : (w : Manner) (q : Request) (x : Machine) → eqb (number-of w q x) 0 ≡ false → record-left w q x ≡ []
+record-none w q x h = ap (λ (z : Machine). slice (x .mark) (z .mark) (z .journal)) (refused-next w q x h) ∙ slice-empty (x .mark) (x .journal)
+
+pub record SameCall (w : Manner) (q : Request) (x y : Machine) : Type 0 where
+  pub answer : answer-to w q x ≡ answer-to w q y
+  pub written : record-left w q x ≡ record-left w q y
+  pub alike : AlikeMachines (next w q x) (next w q y)
+
+abbrev in-window : Window → Machine → Machine
+in-window win y = record { window = win; slots = y .slots; memory = y .memory; journal = y .journal; mark = y .mark }
+
+-- the second machine with the window of the first
+module _ (w : Manner) (q : Request) (x z : Machine) where
+  abbrev y : Machine
+  y = in-window (x .window) z
+
+  module _ (h : AlikeMachines x y) (fx : Fit x) (fy : Fit y) (e : answer-to w q x .event ≡ NoEvent) (dx : answer-to w q x .dropped ≡ 0) (dy : answer-to w q y .dropped ≡ 0) where
+    both-number : (b : Bool) → eqb (number-of w q x) 0 ≡ b → eqb (number-of w q y) 0 ≡ b
+    both-number b k = ap (λ (n : ℕ). eqb n 0) (sym (same-number w q x y h dx dy)) ∙ k
+
+    same-by : (b : Bool) → eqb (number-of w q x) 0 ≡ b → SameCall w q x y
+    same-by true k =
+        let l = both-number true k in
+        let win = x .window in
+        let s = x .slots in
+        let t = y .slots in
+        let m = x .memory in
+        let n = y .memory in
+        let a = h .states in
+        let quiet = sym (event-told w q x k) ∙ e in
+        let quiet-too = same-event win s t m n a (q .level) (q .vector) quiet in
+        let clocks = same-clocks win s t m n a (q .level) (q .vector) quiet in
+        let r = same-record win s t m n (ready-accepted w q x fx k) (ready-accepted w q y fy l) a (q .level) (q .vector) quiet in
+        record {
+          answer = cc (plain-told w q x fx k dx, plain-told w q y fy l dy, quiet, quiet-too, clocks, r, h .mark);
+          written = record-is w q x fx k dx ∙ r ∙ sym (record-is w q y fy l dy);
+          alike =
+              subst₂ AlikeMachines (sym (plain-next w q x fx k dx)) (sym (plain-next w q y fy l dy))
+              (record {
+                window = refl;
+                states = alike-next win s t m n a (q .level) (q .vector) quiet;
+                journal =
+                    length-written (x .journal) (x .mark) (record-of-it w q x) (record-room w q x fx k dx)
+                    ∙ h .journal
+                    ∙ sym (length-written (y .journal) (y .mark) (record-of-it w q y) (record-room w q y fy l dy));
+                mark = cc (r, h .mark);
+              });
+        }
+    same-by false k =
+        let l = both-number false k in
+        record {
+          answer = cc (refused-answer w q x k, refused-answer w q y l, same-number w q x y h dx dy, h .mark);
+          written = record-none w q x k ∙ sym (record-none w q y l);
+          alike = subst₂ AlikeMachines (sym (refused-next w q x k)) (sym (refused-next w q y l)) h;
+        }
+
+pub same-call : (w : Manner) (q : Request) (x y : Machine) → AlikeMachines x y → Fit x → Fit y → answer-to w q x .event ≡ NoEvent
+    → answer-to w q x .dropped ≡ 0 → answer-to w q y .dropped ≡ 0 → SameCall w q x y
+same-call w q x y h fx fy e dx dy =
+    let g : in-window (x .window) y ≡ y = ap (λ (win : Window). in-window win y) (h .window) in
+    subst (λ (z : Machine). AlikeMachines x z → Fit z → answer-to w q z .dropped ≡ 0 → SameCall w q x z) g
+    (λ a f d. same-by w q x y a fx f e dx d (eqb (number-of w q x) 0) refl) h fy dy
+
+-- ---- theorem 2
+pub alike-calls : (w : Manner) (qs : List Request) (x y : Machine) → AlikeMachines x y → Fit x → Fit y → AllCalm w qs x
+    → NoneDropped w qs x → NoneDropped w qs y → SameRow w qs x y
+alike-calls w [] x y h fx fy c dx dy = record { answer = refl; written = refl; calm = tt; alike = h }
+alike-calls w (q ∷ qs) x y h fx fy c dx dy =
+    let s = same-call w q x y h fx fy (c .0) (dx .0) (dy .0) in
+    let r = alike-calls w qs (next w q x) (next w q y) (s .alike) (fit-next w q x fx) (fit-next w q y fy) (c .1) (dx .1) (dy .1) in
+    record {
+      answer = cc (s .answer, r .answer);
+      written = cc (s .written, r .written);
+      calm = (ap (λ (a : StepAnswer). a .event) (sym (s .answer)) ∙ c .0, r .calm);
+      alike = r .alike;
+    }
+
+-- the vector of the step that is not calm
+pub same-vector : (w : Manner) (q : Request) (x y : Machine) → AlikeMachines x y → answer-to w q x .dropped ≡ 0 → answer-to w q y .dropped ≡ 0
+    → (answer-to w q x .event ≡ HaltEvent → ⊥) → (answer-to w q y .event ≡ HaltEvent → ⊥) → answer-to w q x .event ≡ answer-to w q y .event
+same-vector w q x y h dx dy = go (eqb (number-of w q x) 0) refl
+  where
+    go : (b : Bool) → eqb (number-of w q x) 0 ≡ b → (answer-to w q x .event ≡ HaltEvent → ⊥) → (answer-to w q y .event ≡ HaltEvent → ⊥)
+        → answer-to w q x .event ≡ answer-to w q y .event
+    go true k p r =
+        let l = ap (λ (n : ℕ). eqb n 0) (sym (same-number w q x y h dx dy)) ∙ k in
+        let g : one w q y .event ≡ one-step (x .window) (y .slots) (y .memory) (q .level) (q .vector) .event =
+        ap (λ (win : Window). one-step win (y .slots) (y .memory) (q .level) (q .vector) .event) (sym (h .window)) in
+        event-told w q x k
+        ∙ same-step-vector (x .window) (x .slots) (y .slots) (x .memory) (y .memory) (h .states) (q .level) (q .vector)
+          (λ e. p (event-told w q x k ∙ e)) (λ e. r (event-told w q y l ∙ g ∙ e))
+        ∙ sym g ∙ sym (event-told w q y l)
+    go false k p r =
+        let l = ap (λ (n : ℕ). eqb n 0) (sym (same-number w q x y h dx dy)) ∙ k in
+        ap (λ (a : StepAnswer). a .event) (refused-answer w q x k) ∙ sym (ap (λ (a : StepAnswer). a .event) (refused-answer w q y l))
+
+-- ---- the manner that keeps all records
+module _ (q : Request) (x : Machine) where
+  keeping-by : (b : Bool) → eqb (number-of Keeping q x) 0 ≡ b → answer-to Keeping q x .dropped ≡ 0
+  unfolding step-with-room step-taken
+  keeping-by true h = ap (λ (c : StepCall). c .a .dropped) (accepted-call Keeping q x h)
+  keeping-by false h = ap (λ (a : StepAnswer). a .dropped) (refused-answer Keeping q x h)
+
+  pub keeping-drops : answer-to Keeping q x .dropped ≡ 0
+  keeping-drops = keeping-by (eqb (number-of Keeping q x) 0) refl
+
+pub keeping-drops-none : (qs : List Request) (x : Machine) → NoneDropped Keeping qs x
+keeping-drops-none [] x = tt
+keeping-drops-none (q ∷ qs) x = (keeping-drops q x, keeping-drops-none qs (next Keeping q x))
