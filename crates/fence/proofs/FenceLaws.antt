@@ -216,7 +216,8 @@ pub record SameCall (w : Manner) (q : Request) (x y : Machine) : Type 0 where
   pub written : record-left w q x ≡ record-left w q y
   pub alike : AlikeMachines (next w q x) (next w q y)
 
-abbrev in-window : Window → Machine → Machine
+-- a machine with another window
+abbrev pub in-window : Window → Machine → Machine
 in-window win y = record { window = win; slots = y .slots; memory = y .memory; journal = y .journal; mark = y .mark }
 
 -- the second machine with the window of the first
