@@ -23,8 +23,7 @@ use Rattle.record.proofs.DiffLaws.{each-implies}
 use Rattle.record.proofs.SizeLaws.{record-length, valid-slots-from}
 use Rattle.undo.specs.Undo.{Record, found, none, shaped-record}
 use Rattle.undo.proofs.ReadLaws.{length-back}
-use Rattle.oldest.specs.declared.Room.{Room}
-use Rattle.oldest.specs.Room.{Row, row-bytes, Way, rows, torn, more-rows, at-end, read-rows, rows-of, dropped, RoomCall, as-it-was, without, missing, make-room}
+use Rattle.oldest.specs.Room.{Row, row-bytes, Way, rows, torn, more-rows, read-rows, rows-of, dropped, RoomCall, as-it-was, missing}
 use Rattle.oldest.proofs.RoomLaws.{Made, there, refused, on-the-way, dropping, made-cases}
 use Rattle.step.specs.Steps.{one-step, step-clocks}
 use Rattle.step.proofs.PlacesLaws.{each-at}
@@ -33,7 +32,8 @@ use Rattle.exception.specs.Exceptions.{Stepped}
 use Rattle.calls.specs.declared.Manner.{Manner}
 use Rattle.calls.specs.declared.Manner.the-variants.{Dropping, Keeping}
 use Rattle.calls.specs.declared.StepAnswer.{StepAnswer}
-use Rattle.calls.specs.Calls.{memory-fits, state-fits, window-fits, first-tests, no-room, is-torn, torn-way, room-for, StepCall, step-tests, step-number}
+use Rattle.calls.specs.Calls.{memory-fits, state-fits, window-fits, first-tests, no-room, is-torn, torn-way, room-for, StepCall, step-tests}
+use Rattle.calls.specs.Calls.{step-number}
 use Rattle.calls.specs.Calls.{step-taken, in-room, step-with-room, step-call}
 use Rattle.calls.specs.History.{Machine, Request, stepping, act}
 use Rattle.fence.specs.Rows.{Fit, answer-to, next}
@@ -253,7 +253,7 @@ plain-by Dropping win s m j mark a e = go (made-cases (length m) j mark)
     go (on-the-way h l t k) = absurd (torn-test j mark (length m) h t (a .whole))
     go (dropping h l rs t k) =
         absurd (some-dropped (missing j mark) rs (omega (arith, h)) (some-rows (length m) j mark rs (omega (arith, h, l)) (a .inside) t)
-          (sym (ap (λ (c : RoomCall). c .a .dropped) k) ∙ e))
+        (sym (ap (λ (c : RoomCall). c .a .dropped) k) ∙ e))
 
 module _ (w : Manner) (q : Request) (x : Machine) (h : eqb (number-of w q x) 0 ≡ true) (e : answer-to w q x .dropped ≡ 0) where
   dropped-there : step-of-it w q x .a .dropped ≡ room-for w (length (x .memory)) (x .journal) (x .mark) .a .dropped

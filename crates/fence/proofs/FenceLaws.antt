@@ -9,13 +9,13 @@
 use Prim.Native.Nat.{ℕ, _+_, _-_, _<_, _≤_}
 use native.Mathlib.Omega.{arith}
 use mathlib.Core.Path.{_≡_, refl, sym, ap, _∙_, subst, subst₂}
-use mathlib.Core.Bool.{Bool, true, false, _&&_, not}
-use mathlib.Core.List.{List, [], _∷_, _++_}
+use mathlib.Core.Bool.{Bool, true, false, not}
+use mathlib.Core.List.{List, [], _∷_}
 use lib.ListN.{length, take}
 use lib.Seq.{slice, slice-empty, drop-at, length-take-le}
-use lib.Dec.{ltb, leb, eqb}
-use borrow.Author.Tests.{eqb-true, ltb-true}
-use Rattle.codes.specs.Codes.{Supervisor, Halted, TopLevel, NoEvent, HaltEvent}
+use lib.Dec.{ltb, eqb}
+use borrow.Author.Tests.{ltb-true}
+use Rattle.codes.specs.Codes.{Halted, TopLevel, NoEvent, HaltEvent}
 use Rattle.bits.specs.Bits.{pick}
 use Rattle.bits.proofs.BitsLaws.{and-left}
 use Rattle.bus.specs.declared.Window.{Window}
@@ -24,19 +24,20 @@ use Rattle.numbers.specs.Number.{written}
 use Rattle.numbers.proofs.WrittenLaws.{length-written, take-written}
 use Rattle.record.specs.Limits.{longest-record}
 use Rattle.oldest.specs.Room.{rows-of}
-use Rattle.step.specs.Steps.{one-step, step-clocks}
+use Rattle.step.specs.Steps.{one-step}
 use Rattle.calls.specs.declared.Manner.{Manner}
 use Rattle.calls.specs.declared.Manner.the-variants.{Dropping, Keeping}
 use Rattle.calls.specs.declared.StepAnswer.{StepAnswer}
 use Rattle.calls.specs.Calls.{memory-fits, state-fits, window-fits, first-tests, no-room, is-torn, torn-way, StepCall, step-tests, step-number}
 use Rattle.calls.specs.Calls.{step-taken, step-with-room}
 use Rattle.calls.specs.History.{Machine, Request, act}
-use Rattle.fence.specs.Fence.{Alike, Left}
-use Rattle.fence.specs.Rows.{Fit, AlikeMachines, LeftMachine, answer-to, next, record-left, answers, after-row, records, AllCalm, NoneDropped, SameRow}
-use Rattle.fence.proofs.OneLaws.{left-none, same-sr, same-mode, user-too, same-event, same-clocks, alike-next}
-use Rattle.fence.proofs.OneLaws.{same-vector as same-step-vector}
-use Rattle.fence.proofs.AcceptLaws.{Ready, ready-words, ready-next, record-fits, accepted-facts, ready-accepted, number-of, step-of-it, called, refusal}
-use Rattle.fence.proofs.AcceptLaws.{one, record-of-it, next-is, accepted-call, refused-answer, refused-next, accepted-next, step-slots, step-memory}
+use Rattle.fence.specs.Fence.{Left}
+use Rattle.fence.specs.Rows.{Fit, AlikeMachines, LeftMachine, answer-to, next, record-left, after-row, AllCalm, NoneDropped, SameRow}
+use Rattle.fence.proofs.OneLaws.{left-none, same-sr, same-mode, user-too, same-event, same-clocks, alike-next, same-step-vector}
+use Rattle.fence.proofs.AcceptLaws.{Ready, ready-words, ready-next, record-fits, accepted-facts, ready-accepted, number-of, step-of-it}
+use Rattle.fence.proofs.AcceptLaws.{called}
+use Rattle.fence.proofs.AcceptLaws.{one, record-of-it, next-is, accepted-call, refused-answer, refused-next, accepted-next, step-slots}
+use Rattle.fence.proofs.AcceptLaws.{step-memory}
 use Rattle.fence.proofs.AcceptLaws.{event-told, room-free, plain-answer, plain-call, taken-plainly}
 use Rattle.fence.proofs.RecordLaws.{left-next, same-record}
 
@@ -299,7 +300,7 @@ same-vector w q x y h dx dy = go (eqb (number-of w q x) 0) refl
         ap (λ (win : Window). one-step win (y .slots) (y .memory) (q .level) (q .vector) .event) (sym (h .window)) in
         event-told w q x k
         ∙ same-step-vector (x .window) (x .slots) (y .slots) (x .memory) (y .memory) (h .states) (q .level) (q .vector)
-          (λ e. p (event-told w q x k ∙ e)) (λ e. r (event-told w q y l ∙ g ∙ e))
+        (λ e. p (event-told w q x k ∙ e)) (λ e. r (event-told w q y l ∙ g ∙ e))
         ∙ sym g ∙ sym (event-told w q y l)
     go false k p r =
         let l = ap (λ (n : ℕ). eqb n 0) (sym (same-number w q x y h dx dy)) ∙ k in

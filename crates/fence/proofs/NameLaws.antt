@@ -1,7 +1,7 @@
 -- NameLaws.antt - the event of a step is the one that its request, its instruction and T name, or a halt: the stacks decide nothing else.
 -- Or; plan-event, tried-event, step-event: what is named; step-names: the law. still, tried, interrupted: shorter words for one-step's parts.
 -- Uses: bits, bus, plan, bank, exception, step.  Source: [K7], [01 One step].
-use Prim.Native.Nat.{ℕ, _+_, _%_, _/_}
+use Prim.Native.Nat.{ℕ, _%_, _/_}
 use native.Mathlib.Omega.{arith}
 use mathlib.Core.Path.{_≡_, refl, sym, ap, _∙_, subst}
 use mathlib.Core.Bool.{Bool, true, false, _&&_, _||_}
@@ -9,7 +9,7 @@ use mathlib.Core.List.{List}
 use lib.Dec.{ltb, eqb}
 use borrow.Author.Tests.{eqb-true, ltb-false}
 use Rattle.codes.specs.Codes.{Running, Mask, TopLevel, TraceVector, NoVector, NoEvent, HaltEvent, NoWrite, event-of}
-use Rattle.bits.specs.Bits.{pick, minus, plus}
+use Rattle.bits.specs.Bits.{pick, minus}
 use Rattle.bus.specs.declared.Window.{Window}
 use Rattle.bus.specs.Bus.{all-of, fault-vector}
 use Rattle.plan.specs.declared.Plan.{Plan}

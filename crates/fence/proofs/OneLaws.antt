@@ -1,5 +1,5 @@
 -- OneLaws.antt - the theorems of K7 for one step.
--- left-after: from user state a step that takes no exception leaves T, S, mask, SSP and all outside the window; same-vector: machines that are alike
+-- left-after: from user state a step that takes no exception leaves T, S, mask, SSP and all outside the window; same-step-vector: machines that are alike
 -- take the same exception first, unless one halts; same-event, same-clocks, alike-next: what is the same of a step that takes none.
 -- No instruction is looked at: `execute` stays shut.  Uses: bits, flags, bus, plan, bank, exception, execute, step.  Source: [K7].
 use Prim.Native.Nat.{ℕ, _%_, _/_, _<_, _≤_, _^_}
@@ -16,11 +16,11 @@ use Rattle.bus.specs.declared.Flow.{Flow}
 use Rattle.bus.specs.declared.Window.{Window}
 use Rattle.bus.specs.Bus.{View, seen-by, next-word}
 use Rattle.plan.specs.declared.Plan.{Plan}
-use Rattle.bank.specs.Bank.{ssp-of, pc-of, sr-of, mode-of, supervisor, tracing, long, bank, usp-after, ssp-after, sr-after, settle}
+use Rattle.bank.specs.Bank.{ssp-of, pc-of, sr-of, mode-of, supervisor, long, bank, usp-after, ssp-after, sr-after, settle}
 use Rattle.exception.specs.Exceptions.{Stepped, fresh}
 use Rattle.execute.specs.Dispatch.{execute}
 use Rattle.step.specs.Steps.{sight, Attempt, attempt, one-step, step-clocks}
-use Rattle.fence.specs.Fence.{Same, Alike, SameSystem, Left}
+use Rattle.fence.specs.Fence.{Alike, SameSystem, Left}
 use Rattle.fence.proofs.ViewLaws.{same-view}
 use Rattle.fence.proofs.NameLaws.{still, Or, this, halts, tried, step-event, step-names, step-stands}
 use Rattle.fence.proofs.QuietLaws.{written-by, Quiet, stands, works, quiet-of, names-none, works-is, quiet-event, quiet-clocks}
@@ -73,7 +73,7 @@ module _ (win : Window) (s m : List ℕ) (u : supervisor (sr-of s) ≡ false) wh
   tried-out j out h =
       let f = fresh (pc-of s) (sr-of s) in
       subst (λ (v : View). eqb (attempt (bank s) v f .t .p .flow .bad) 0 ≡ true
-        → getD (written-by m (attempt (bank s) v f .r) (attempt (bank s) v f .t .p)) j 0 ≡ getD m j 0)
+      → getD (written-by m (attempt (bank s) v f .r) (attempt (bank s) v f .t .p)) j 0 ≡ getD m j 0)
       (sym user-view) (attempt-out win m j out (bank s) f) h
 
 -- ---- theorem 1, one step
@@ -122,11 +122,29 @@ module _ (win : Window) (s t m n : List ℕ) (h : Alike win s t m n) where
   same-bank : bank s ≡ bank t
   unfolding bank
   same-bank =
-      cc (h .user, user-too, same-pc, same-sr, same-mode, slot Usp (λ e. omega (arith, e)),
-        slot 0 (λ e. omega (arith, e)), slot 1 (λ e. omega (arith, e)), slot 2 (λ e. omega (arith, e)), slot 3 (λ e. omega (arith, e)),
-        slot 4 (λ e. omega (arith, e)), slot 5 (λ e. omega (arith, e)), slot 6 (λ e. omega (arith, e)), slot 7 (λ e. omega (arith, e)),
-        slot 8 (λ e. omega (arith, e)), slot 9 (λ e. omega (arith, e)), slot 10 (λ e. omega (arith, e)), slot 11 (λ e. omega (arith, e)),
-        slot 12 (λ e. omega (arith, e)), slot 13 (λ e. omega (arith, e)), slot 14 (λ e. omega (arith, e)))
+      cc (
+        h .user,
+        user-too,
+        same-pc,
+        same-sr,
+        same-mode,
+        slot Usp (λ e. omega (arith, e)),
+        slot 0 (λ e. omega (arith, e)),
+        slot 1 (λ e. omega (arith, e)),
+        slot 2 (λ e. omega (arith, e)),
+        slot 3 (λ e. omega (arith, e)),
+        slot 4 (λ e. omega (arith, e)),
+        slot 5 (λ e. omega (arith, e)),
+        slot 6 (λ e. omega (arith, e)),
+        slot 7 (λ e. omega (arith, e)),
+        slot 8 (λ e. omega (arith, e)),
+        slot 9 (λ e. omega (arith, e)),
+        slot 10 (λ e. omega (arith, e)),
+        slot 11 (λ e. omega (arith, e)),
+        slot 12 (λ e. omega (arith, e)),
+        slot 13 (λ e. omega (arith, e)),
+        slot 14 (λ e. omega (arith, e)),
+      )
 
   same-sight : sight win s m ≡ sight win t n
   same-sight = user-view win s m (h .user) ∙ same-view win m n (h .memory) ∙ sym (user-view win t n user-too)
@@ -140,9 +158,9 @@ module _ (win : Window) (s t m n : List ℕ) (h : Alike win s t m n) where
     same-name = cc (same-tried, same-sr, same-mode)
 
     -- the same exception, unless one of the two halts
-    pub same-vector : (one-step win s m level vector .event ≡ HaltEvent → ⊥) → (one-step win t n level vector .event ≡ HaltEvent → ⊥)
+    pub same-step-vector : (one-step win s m level vector .event ≡ HaltEvent → ⊥) → (one-step win t n level vector .event ≡ HaltEvent → ⊥)
         → one-step win s m level vector .event ≡ one-step win t n level vector .event
-    same-vector p q = joined (step-names win s m level vector) (step-names win t n level vector)
+    same-step-vector p q = joined (step-names win s m level vector) (step-names win t n level vector)
       where
         joined : Or (step-event win s m level vector) (one-step win s m level vector .event) → Or (step-event win t n level vector) (one-step win t n level vector .event)
             → one-step win s m level vector .event ≡ one-step win t n level vector .event

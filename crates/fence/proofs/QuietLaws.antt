@@ -1,7 +1,7 @@
 -- QuietLaws.antt - a step that names no event took no exception and did not halt: what it then is.
 -- Quiet, quiet-of: why it names none; works-is, quiet-event, quiet-clocks: what such a step leaves, its event and its clocks.
 -- Uses: bits, bus, plan, bank, exception, step.  Source: [K7], [01 One step].
-use Prim.Native.Nat.{ℕ, _+_, _%_}
+use Prim.Native.Nat.{ℕ, _%_}
 use native.Mathlib.Omega.{arith}
 use mathlib.Core.Path.{_≡_, refl, sym, ap, _∙_}
 use mathlib.Core.Bool.{Bool, true, false, _&&_}
@@ -12,7 +12,7 @@ use Rattle.bits.specs.Bits.{pick}
 use Rattle.bus.specs.declared.Window.{Window}
 use Rattle.bus.specs.Bus.{fault-vector}
 use Rattle.plan.specs.declared.Plan.{Plan}
-use Rattle.bank.specs.Bank.{sr-of, mode-of, tracing, bank, settle}
+use Rattle.bank.specs.Bank.{sr-of, mode-of, tracing, settle}
 use Rattle.exception.specs.Exceptions.{Stepped}
 use Rattle.clocks.specs.Tables.{stopped-clocks}
 use Rattle.step.specs.declared.Tried.{Tried}

@@ -20,7 +20,8 @@ use Rattle.bus.specs.Bus.{put-byte, put-word, put-long, put-sized}
 use Rattle.plan.specs.declared.Plan.{Plan}
 use Rattle.movem.specs.declared.Way.{Way}
 use Rattle.movem.specs.declared.Spot.{Spot}
-use Rattle.movem.specs.Movem.{listed, first-spot, next-spot, Walk, room-way, room-one, block-room, put-way, stored, part-of, put-part, put-one, block-put}
+use Rattle.movem.specs.Movem.{listed, first-spot, next-spot, Walk, room-way, room-one, block-room, put-way, stored, part-of, put-part, put-one}
+use Rattle.movem.specs.Movem.{block-put}
 use Rattle.movem.specs.Order.{down-one, block-put-down}
 use Rattle.movem.proofs.DownLaws.{block-put-is-down}
 use Rattle.step.specs.Steps.{plan-with-flow, checked, commit}

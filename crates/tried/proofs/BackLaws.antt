@@ -1,31 +1,30 @@
 -- BackLaws.antt - a row of accepted steps that keeps all records is taken back by as many undos, each of them accepted, over the journal that it left.
 -- row-journal: such a row leaves the journal below its first mark, and its length; undo-one: one undo; back-row: all of them.
 -- Uses: bits, numbers, record, undo, oldest, step, calls, tries, fence.  Source: [K7], [01 The journal].
-use Prim.Native.Nat.{ℕ, zero, suc, _+_, _-_, _^_, _<_, _≤_}
+use Prim.Native.Nat.{ℕ, suc, _+_, _-_, _<_, _≤_}
 use native.Mathlib.Omega.{arith}
 use mathlib.Core.Path.{_≡_, refl, sym, ap, _∙_, subst}
-use mathlib.Core.Bool.{Bool, true, false, _&&_, not}
+use mathlib.Core.Bool.{true, false, _&&_}
 use mathlib.Core.List.{List, [], _∷_, _++_, append-nil}
 use lib.ListN.{length}
-use lib.Dec.{ltb, leb, eqb}
+use lib.Dec.{leb, eqb}
 use borrow.Author.Tests.{eq-eqb, ne-eqb, le-ltb}
-use Rattle.bits.specs.Bits.{pick}
 use Rattle.bus.specs.declared.Window.{Window}
-use Rattle.numbers.specs.Number.{back, written}
+use Rattle.numbers.specs.Number.{back}
 use Rattle.numbers.proofs.WrittenLaws.{length-written}
-use Rattle.record.specs.Change.{diffs, record-of}
-use Rattle.undo.specs.declared.Answer.{Answer}
-use Rattle.undo.specs.declared.Answer.the-variants.{Done, Refused}
-use Rattle.undo.specs.Undo.{Outcome, undo-of}
+use Rattle.record.specs.Change.{diffs}
+use Rattle.undo.specs.declared.Answer.the-variants.{Done}
+use Rattle.undo.specs.Undo.{undo-of}
 use Rattle.undo.proofs.UndoLaws.{undo-of-record, undo-by-back, back-below}
 use Rattle.oldest.specs.Room.{Row, row-bytes}
 use Rattle.oldest.proofs.RowLaws.{rows-weight}
 use Rattle.calls.specs.declared.Manner.the-variants.{Keeping}
-use Rattle.calls.specs.Calls.{memory-fits, state-fits, window-fits, first-tests, UndoCall, undo-number, undo-answer, undo-call}
+use Rattle.calls.specs.Calls.{window-fits, first-tests, undo-number, undo-call}
 use Rattle.calls.specs.History.{Machine, Request}
 use Rattle.tries.specs.Tries.{BackCall, backing}
 use Rattle.fence.specs.Rows.{Fit, answer-to, next, after-row}
-use Rattle.fence.proofs.AcceptLaws.{Ready, ready-state, ready-size, ready-next, kept-by, accepted-facts, ready-accepted, number-of, number-told, one, record-of-it, called}
+use Rattle.fence.proofs.AcceptLaws.{Ready, ready-state, ready-size, ready-next, kept-by, accepted-facts, ready-accepted, number-of, number-told}
+use Rattle.fence.proofs.AcceptLaws.{record-of-it, called}
 use Rattle.fence.proofs.AcceptLaws.{plain-call}
 use Rattle.fence.proofs.FenceLaws.{fit-next, record-room, plain-next, keeping-drops}
 use Rattle.tried.specs.Tried.{AllAccepted}

@@ -3,16 +3,13 @@
 -- Uses: bits, calls, tries, fence.  Source: [K7].
 use Prim.Native.Nat.{ℕ, zero, suc, _+_}
 use native.Mathlib.Omega.{arith}
-use mathlib.Core.Path.{_≡_, refl, sym, ap, _∙_, subst}
+use mathlib.Core.Path.{_≡_, refl, ap, _∙_}
 use mathlib.Core.Bool.{Bool, true, false}
-use mathlib.Core.List.{List, [], _∷_}
 use lib.Dec.{eqb}
 use borrow.Author.Tests.{eqb-true, eq-eqb}
 use Rattle.codes.specs.Codes.{NoEvent}
 use Rattle.bank.specs.Bank.{sr-of, supervisor}
 use Rattle.calls.specs.declared.Manner.the-variants.{Keeping}
-use Rattle.calls.specs.declared.StepAnswer.{StepAnswer}
-use Rattle.calls.specs.Calls.{StepCall}
 use Rattle.calls.specs.History.{Machine, act}
 use Rattle.tries.specs.Tries.{spent, supervised, refused, TryCall, ended, ended-by, trying, try-number, try-call}
 use Rattle.fence.specs.Rows.{answer-to, next, after-row, AllCalm}

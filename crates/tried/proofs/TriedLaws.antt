@@ -9,29 +9,32 @@
 use Prim.Native.Nat.{ℕ, zero, suc, _+_, _-_}
 use native.Mathlib.Omega.{arith}
 use mathlib.Core.Path.{_≡_, refl, sym, ap, _∙_, subst, subst₂}
-use mathlib.Core.Bool.{Bool, true, false, _||_, not}
+use mathlib.Core.Bool.{Bool, true, false, _||_}
 use mathlib.Core.List.{List, [], _∷_}
 use lib.ListN.{length}
-use lib.Dec.{ltb, eqb}
-use borrow.Author.Tests.{eqb-true, eqb-false, eq-eqb, ne-eqb}
-use Rattle.codes.specs.Codes.{Halted, MostSteps, NoEvent, HaltEvent}
+use lib.Dec.{eqb}
+use borrow.Author.Tests.{eqb-true, eqb-false}
+use Rattle.codes.specs.Codes.{NoEvent, HaltEvent}
 use Rattle.bits.specs.Bits.{pick}
 use Rattle.bus.specs.declared.Window.{Window}
-use Rattle.bank.specs.Bank.{sr-of, mode-of, supervisor}
+use Rattle.bank.specs.Bank.{sr-of, supervisor}
 use Rattle.calls.specs.declared.Manner.the-variants.{Keeping}
 use Rattle.calls.specs.declared.StepAnswer.{StepAnswer}
-use Rattle.calls.specs.Calls.{first-tests, no-room}
+use Rattle.calls.specs.Calls.{first-tests}
 use Rattle.calls.specs.History.{Machine, Request}
 use Rattle.tries.specs.declared.TryAnswer.{TryAnswer}
-use Rattle.tries.specs.Tries.{spent, supervised, taken-exception, halt, refused, TryCall, ended, try-number, BackCall, backing}
+use Rattle.tries.specs.Tries.{spent, supervised, taken-exception, halt, refused, TryCall, ended, try-number, backing}
 use Rattle.fence.specs.Rows.{Fit, AlikeMachines, LeftMachine, answer-to, next, answers, after-row, AllCalm, SameRow}
 use Rattle.fence.proofs.OneLaws.{left-none, same-sr, same-mode}
 use Rattle.fence.proofs.AcceptLaws.{number-told}
-use Rattle.fence.proofs.FenceLaws.{window-stays, fit-next, user-calls-leave, alike-back, same-number, same-call, alike-calls, same-vector, keeping-drops}
+use Rattle.fence.proofs.FenceLaws.{window-stays, fit-next, user-calls-leave, alike-back, same-number, same-call, alike-calls, same-vector}
+use Rattle.fence.proofs.FenceLaws.{keeping-drops}
 use Rattle.fence.proofs.FenceLaws.{keeping-drops-none, in-window}
-use Rattle.tried.specs.Tried.{plain, plains, AllAccepted, try-on, after-try, back-on, calm-steps, once-calm, TryIs, SameEnd, same-end, first-halts}
+use Rattle.tried.specs.Tried.{plain, plains, AllAccepted, try-on, after-try, back-on, calm-steps, once-calm, TryIs, SameEnd, same-end}
+use Rattle.tried.specs.Tried.{first-halts}
 use Rattle.tried.specs.Tried.{second-halts, SameTry}
-use Rattle.tried.proofs.CourseLaws.{trying-on, ended-at, ended-after, takes, quiet, turn-ends, turn-refused, turn-spent, through, Ends, done, refuses}
+use Rattle.tried.proofs.CourseLaws.{trying-on, ended-at, ended-after, takes, quiet, turn-ends, turn-refused, turn-spent, through, Ends, done}
+use Rattle.tried.proofs.CourseLaws.{refuses}
 use Rattle.tried.proofs.CourseLaws.{excepts, Course, course-of, first-number, goes-refused, goes-supervised, goes-on}
 use Rattle.tried.proofs.BackLaws.{backing-on, back-row}
 
