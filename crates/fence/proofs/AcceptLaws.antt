@@ -1,4 +1,4 @@
--- AcceptLaws.antt - what an accepted step call rests on and what it is, and what a refused one is. Small laws of step-call, for this crate's theorems.
+-- AcceptLaws.antt - what an accepted step call rests on and what it is, and what a refused one is: small laws of step-call, for the theorems here.
 -- Ready, ready-of, ready-next, record-fits: a valid state, kept by a step; Accepted, accepted-is: what number 0 says; refused-answer, refused-next;
 -- accepted-state: slots, memory, event and clocks are one-step's, in either manner; taken-plainly: where no record is dropped the journal keeps all.
 -- Uses: bits, numbers, record, undo, oldest, step, calls.  Source: [01 Calls], [K5], [K7].
@@ -60,7 +60,8 @@ module _ (s m : List ℕ) (h : Ready s m) where
       rw (status, le-leb (mode-of s) Halted (omega (arith, ltb-true (mode-of s) 3 mode)))
 
   pub ready-size : length m ≤ 2 ^ 24
-  ready-size = leb-true (length m) MostMemory (and-right (eqb (length m % 2) 0 && leb LeastMemory (length m)) (leb (length m) MostMemory) (h .fits))
+  ready-size =
+      leb-true (length m) MostMemory (and-right (eqb (length m % 2) 0 && leb LeastMemory (length m)) (leb (length m) MostMemory) (h .fits))
 
   pub ready-words : Each (λ k v. v < 2 ^ 32) 0 s
   ready-words = each-implies (λ k v. (valid-value k v ≡ true) × (v < 2 ^ 32)) (λ k v. v < 2 ^ 32) (λ k v h. h .1) 0 s (h .values)
@@ -70,11 +71,13 @@ module _ (s m : List ℕ) (h : Ready s m) where
     kept-by = one-step-keeps win s m level vector (h .slots) (h .values) (h .bytes)
 
     pub ready-next : Ready (one-step win s m level vector .s) (one-step win s m level vector .m)
-    ready-next = record { slots = kept-by .slots ∙ h .slots; values = kept-by .values; bytes = kept-by .bytes; fits = rw (kept-by .memory) (h .fits) }
+    ready-next =
+        record { slots = kept-by .slots ∙ h .slots; values = kept-by .values; bytes = kept-by .bytes; fits = rw (kept-by .memory) (h .fits) }
 
     pub record-fits : length (step-record s (one-step win s m level vector .s) m (one-step win s m level vector .m)) ≤ longest-record
     record-fits =
-        record-length s (one-step win s m level vector .s) m (one-step win s m level vector .m) (h .slots) ready-size (kept-by .few) (h .values) (h .bytes)
+        record-length s (one-step win s m level vector .s) m (one-step win s m level vector .m) (h .slots) ready-size (kept-by .few) (h .values)
+        (h .bytes)
 
 -- what is lent, once it is accepted
 word-at : (s : List ℕ) → Each (λ k v. v < 2 ^ 32) 0 s → (k : ℕ) → getD s k 0 < 2 ^ 32
@@ -91,7 +94,8 @@ ready-of x f m s =
     record {
       slots = f .slots;
       values =
-          valid-slots-from (x .slots) (and-left a b s) (omega (arith, leb-true (mode-of (x .slots)) Halted (and-right a b s))) (word-at (x .slots) (f .words));
+          valid-slots-from (x .slots) (and-left a b s) (omega (arith, leb-true (mode-of (x .slots)) Halted (and-right a b s)))
+          (word-at (x .slots) (f .words));
       bytes = f .bytes;
       fits = m;
     }
@@ -113,7 +117,8 @@ pub record Accepted (w : Manner) (win : Window) (s m j : List ℕ) (mark : ℕ) 
   pub roomy : no-room w j mark ≡ false
   pub whole : torn-way w (length m) j mark ≡ false
 
-pub accepted-is : (w : Manner) (win : Window) (s m : List ℕ) (level : ℕ) (j : List ℕ) (mark : ℕ) → step-number w win s m level j mark ≡ 0 → Accepted w win s m j mark
+pub accepted-is : (w : Manner) (win : Window) (s m : List ℕ) (level : ℕ) (j : List ℕ) (mark : ℕ) → step-number w win s m level j mark ≡ 0
+    → Accepted w win s m j mark
 unfolding step-number step-tests first-tests
 accepted-is w win s m level j mark e =
     let a = not-one (memory-fits m) 0 _ e in
@@ -148,7 +153,8 @@ module _ (w : Manner) (q : Request) (x : Machine) where
   unfolding step-call
   accepted-call h = cc
 
-  refused-call : eqb number-of 0 ≡ false → stepping w (q .level) (q .vector) x ≡ record { s = x .slots; m = x .memory; j = x .journal; a = refusal }
+  refused-call : eqb number-of 0 ≡ false
+      → stepping w (q .level) (q .vector) x ≡ record { s = x .slots; m = x .memory; j = x .journal; a = refusal }
   unfolding step-call
   refused-call h = cc
 
@@ -213,7 +219,8 @@ all-kept (suc f) len (y ∷ s) acc = go (λ t acc. all-kept f len t acc) (shaped
     less k (rows rs) h = omega (arith, h)
     less k torn h = tt
 
-    go : ((t : List ℕ) (acc : List Row) → AtLeast (length acc) (read-rows f len t acc)) → (r : Record) → AtLeast (length acc) (more-rows (read-rows f len) acc r)
+    go : ((t : List ℕ) (acc : List Row) → AtLeast (length acc) (read-rows f len t acc)) → (r : Record)
+        → AtLeast (length acc) (more-rows (read-rows f len) acc r)
     go ih none = tt
     go ih (found ss bs t) =
         let more : List Row = record { slots = ss; bytes = bs } ∷ acc in less (length acc) (read-rows f len t more) (ih t more)
@@ -233,7 +240,8 @@ some-rows len j mark rs p h e = subst (AtLeast 1) e (one-read mark len (back j m
 
 some-dropped : (need : ℕ) (rs : List Row) → 0 < need → 1 ≤ length rs → dropped need 0 rs ≡ 0 → ⊥
 some-dropped need [] h k e = omega (arith, k)
-some-dropped need (r ∷ rs) h k e = absurd (let z : _≡_ {A = ℕ} (suc (dropped need (0 + length (row-bytes r)) rs)) 0 = rw (lt-ltb 0 need h) at e in omega (arith, z))
+some-dropped need (r ∷ rs) h k e =
+    absurd (let z : _≡_ {A = ℕ} (suc (dropped need (0 + length (row-bytes r)) rs)) 0 = rw (lt-ltb 0 need h) at e in omega (arith, z))
 
 torn-test : (j : List ℕ) (mark len : ℕ) → length j - mark < longest-record → rows-of len j mark ≡ torn → torn-way Dropping len j mark ≡ false → ⊥
 torn-test j mark len h e t = let z : _≡_ {A = ℕ} 0 1 = cc (lt-ltb (length j - mark) longest-record h, ap is-torn e) in omega (arith, z)
@@ -243,7 +251,8 @@ pub record Plain (w : Manner) (len : ℕ) (j : List ℕ) (mark : ℕ) : Type 0 w
   pub is : room-for w len j mark ≡ as-it-was 0 j mark
   pub free : longest-record ≤ length j - mark
 
-plain-by : (w : Manner) (win : Window) (s m j : List ℕ) (mark : ℕ) → Accepted w win s m j mark → room-for w (length m) j mark .a .dropped ≡ 0 → Plain w (length m) j mark
+plain-by : (w : Manner) (win : Window) (s m j : List ℕ) (mark : ℕ) → Accepted w win s m j mark → room-for w (length m) j mark .a .dropped ≡ 0
+    → Plain w (length m) j mark
 plain-by Keeping win s m j mark a e = record { is = refl; free = ltb-false (length j - mark) longest-record (a .roomy) }
 plain-by Dropping win s m j mark a e = go (made-cases (length m) j mark)
   where

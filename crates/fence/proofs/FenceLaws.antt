@@ -1,8 +1,8 @@
 -- FenceLaws.antt - K7's theorems for rows of step calls, in either manner.
 -- * user-calls-leave: theorem 1. From user state, before the first step that takes an exception or halts, T, S, mask, SSP and every byte outside the
 --   window stay as they were.
--- * alike-calls: theorem 2. Two machines that agree on all slots but SSP, lo, hi, window bytes, memory length, requests, journal length and mark give
---   the same answers (numbers, events, marks, clocks), write the same records and stay alike up to there, where neither drops records.
+-- * alike-calls: theorem 2. Two machines that agree on all slots but SSP, lo, hi, window bytes, memory length, requests, journal length and mark
+--   give the same answers (numbers, events, marks, clocks), write the same records and stay alike up to there, where neither drops records.
 -- * same-vector: there they take the same exception first, unless one of them halts.
 -- * same-number: a call is refused on both with the same number, or on neither. keeping-drops-none: in the manner Keeping no record is dropped.
 -- Uses: bits, bus, bank, numbers, record, oldest, step, calls.  Source: [K7], [K5].
@@ -60,7 +60,8 @@ module _ (w : Manner) (q : Request) (x : Machine) (f : Fit x) where
   pub fit-next : Fit (next w q x)
   fit-next = fit-by (eqb (number-of w q x) 0) refl
 
-  left-by : (b : Bool) → eqb (number-of w q x) 0 ≡ b → supervisor (sr-of (x .slots)) ≡ false → answer-to w q x .event ≡ NoEvent → LeftMachine x (next w q x)
+  left-by : (b : Bool) → eqb (number-of w q x) 0 ≡ b → supervisor (sr-of (x .slots)) ≡ false → answer-to w q x .event ≡ NoEvent
+      → LeftMachine x (next w q x)
   left-by true h u e =
       let l =
       left-next (x .window) (x .slots) (x .memory) (ready-accepted w q x f h) u (q .level) (q .vector) (sym (event-told w q x h) ∙ e) in
@@ -77,7 +78,11 @@ module _ (win : Window) (s m t n o p : List ℕ) (a : Left win s m t n) where
   left-then b =
       record {
         system =
-            record { trace = b .system .trace ∙ a .system .trace; super = b .system .super ∙ a .system .super; mask = b .system .mask ∙ a .system .mask };
+            record {
+              trace = b .system .trace ∙ a .system .trace;
+              super = b .system .super ∙ a .system .super;
+              mask = b .system .mask ∙ a .system .mask;
+            };
         ssp = b .ssp ∙ a .ssp;
         long = b .long ∙ a .long;
         outside = λ i out. b .outside i out ∙ a .outside i out;
@@ -155,19 +160,22 @@ alike-back x y h =
 
 -- a journal that is torn is short of room
 torn-short : (w : Manner) (len : ℕ) (j : List ℕ) (mark : ℕ) → torn-way w len j mark ≡ true → length j - mark < longest-record
-torn-short Dropping len j mark t = ltb-true (length j - mark) longest-record (and-left (ltb (length j - mark) longest-record) (is-torn (rows-of len j mark)) t)
+torn-short Dropping len j mark t =
+    ltb-true (length j - mark) longest-record (and-left (ltb (length j - mark) longest-record) (is-torn (rows-of len j mark)) t)
 torn-short Keeping len j mark t = absurd (let z : _≡_ {A = ℕ} 0 1 = cc (t) in omega (arith, z))
 
 module _ (w : Manner) (q : Request) where
   abbrev torn-of : Machine → Bool
   torn-of x = torn-way w (length (x .memory)) (x .journal) (x .mark)
 
-  number-by : (x : Machine) (b : Bool) → torn-of x ≡ b → number-of w q x ≡ step-tests w (x .window) (x .slots) (x .memory) (q .level) (x .journal) (x .mark) (pick b 8 0)
+  number-by : (x : Machine) (b : Bool) → torn-of x ≡ b
+      → number-of w q x ≡ step-tests w (x .window) (x .slots) (x .memory) (q .level) (x .journal) (x .mark) (pick b 8 0)
   unfolding step-number
   number-by x b e = cc
 
   -- torn in one alone: then a test before it gave the number, or the other dropped records
-  number-apart : (x y : Machine) → AlikeMachines x y → answer-to w q y .dropped ≡ 0 → torn-of x ≡ true → torn-of y ≡ false → number-of w q x ≡ number-of w q y
+  number-apart : (x y : Machine) → AlikeMachines x y → answer-to w q y .dropped ≡ 0 → torn-of x ≡ true → torn-of y ≡ false
+      → number-of w q x ≡ number-of w q y
   unfolding tests
   number-apart x y h d a b = go (tests-last w (x .window) (x .slots) (x .memory) (q .level) (x .journal) (x .mark))
     where
@@ -178,7 +186,8 @@ module _ (w : Manner) (q : Request) where
           absurd (omega (arith, f, torn-short w (length (x .memory)) (x .journal) (x .mark) a, h .journal, h .mark))
       go (stops p) = number-by x true a ∙ p 8 0 ∙ same-tests x y h w q 0 ∙ sym (number-by y false b)
 
-  pub same-number : (x y : Machine) → AlikeMachines x y → answer-to w q x .dropped ≡ 0 → answer-to w q y .dropped ≡ 0 → number-of w q x ≡ number-of w q y
+  pub same-number : (x y : Machine) → AlikeMachines x y → answer-to w q x .dropped ≡ 0 → answer-to w q y .dropped ≡ 0
+      → number-of w q x ≡ number-of w q y
   unfolding tests
   same-number x y h d e = go (torn-of x) (torn-of y) refl refl
     where
@@ -226,7 +235,8 @@ module _ (w : Manner) (q : Request) (x z : Machine) where
   abbrev y : Machine
   y = in-window (x .window) z
 
-  module _ (h : AlikeMachines x y) (fx : Fit x) (fy : Fit y) (e : answer-to w q x .event ≡ NoEvent) (dx : answer-to w q x .dropped ≡ 0) (dy : answer-to w q y .dropped ≡ 0) where
+  module _ (h : AlikeMachines x y) (fx : Fit x) (fy : Fit y) (e : answer-to w q x .event ≡ NoEvent) (dx : answer-to w q x .dropped ≡ 0)
+      (dy : answer-to w q y .dropped ≡ 0) where
     both-number : (b : Bool) → eqb (number-of w q x) 0 ≡ b → eqb (number-of w q y) 0 ≡ b
     both-number b k = ap (λ (n : ℕ). eqb n 0) (sym (same-number w q x y h dx dy)) ∙ k
 

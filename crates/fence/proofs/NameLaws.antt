@@ -35,7 +35,8 @@ none-named x e (halts h) k = absurd (omega (arith, h, k))
 
 -- what a plan's trap or trace is named: the first of two
 abbrev pub plan-event : Plan → Bool → ℕ
-plan-event p trace = pick (eqb (p .write) NoWrite && ltb NoVector (trap-of p)) (event-of (trap-of p % 256)) (pick trace (event-of TraceVector) NoEvent)
+plan-event p trace =
+    pick (eqb (p .write) NoWrite && ltb NoVector (trap-of p)) (event-of (trap-of p % 256)) (pick trace (event-of TraceVector) NoEvent)
 
 -- an instruction's: that of its fault, if it met one
 abbrev pub tried-event : Tried → Bool → ℕ
@@ -51,7 +52,8 @@ unfolding exception
 exception-or s m vec sr =
     let a = minus (ssp-of s) 6 in
     let n = small-frame m a (sr-of s) (pc-of s) in
-    pick-or (event-of (vec % 256)) (small-ready s m vec) (record { s = enter s (all-of n) a vec sr; m = n; event = event-of (vec % 256) }) (halted s m)
+    pick-or (event-of (vec % 256)) (small-ready s m vec) (record { s = enter s (all-of n) a vec sr; m = n; event = event-of (vec % 256) })
+    (halted s m)
     (this refl) (halts refl)
 
 fault-or : (s m : List ℕ) (bad op : ℕ) → Or (event-of (fault-vector bad)) (fault s m bad op .event)
@@ -101,7 +103,8 @@ module _ (s m : List ℕ) (vec : ℕ) (trace : Bool) where
   unfolding both
   both-is = refl
 
-  both-by : (b : Bool) → ltb NoVector vec ≡ b → Or (pick b (event-of (vec % 256)) (pick trace (event-of TraceVector) NoEvent)) (both s m vec trace .event)
+  both-by : (b : Bool) → ltb NoVector vec ≡ b
+      → Or (pick b (event-of (vec % 256)) (pick trace (event-of TraceVector) NoEvent)) (both s m vec trace .event)
   both-by true h =
       subst (Or (event-of (vec % 256))) (sym both-is)
       (first-of (vec % 256) (first .event) (second (traced vec trace (first .event)) .event) (trap-by s m vec true h))
@@ -124,12 +127,15 @@ module _ (s m r : List ℕ) (p : Plan) (trace : Bool) where
   carry-out-write h = cc
 
   carry-out-by : (b : Bool) → eqb (p .write) NoWrite ≡ b
-      → Or (pick (b && ltb NoVector (trap-of p)) (event-of (trap-of p % 256)) (pick trace (event-of TraceVector) NoEvent)) (carry-out s m r p trace .event)
+      → Or (pick (b && ltb NoVector (trap-of p)) (event-of (trap-of p % 256)) (pick trace (event-of TraceVector) NoEvent))
+      (carry-out s m r p trace .event)
   carry-out-by true h =
-      subst (λ (t : Stepped). Or (pick (ltb NoVector (trap-of p)) (event-of (trap-of p % 256)) (pick trace (event-of TraceVector) NoEvent)) (t .event))
+      let x = pick (ltb NoVector (trap-of p)) (event-of (trap-of p % 256)) (pick trace (event-of TraceVector) NoEvent) in
+      subst (λ (t : Stepped). Or x (t .event))
       (sym (carry-out-none h)) (both-by s m (trap-of p) trace (ltb NoVector (trap-of p)) refl)
   carry-out-by false h =
-      subst (λ (t : Stepped). Or (pick trace (event-of TraceVector) NoEvent) (t .event)) (sym (carry-out-write h)) (trace-or trace s (commit m r p))
+      subst (λ (t : Stepped). Or (pick trace (event-of TraceVector) NoEvent) (t .event)) (sym (carry-out-write h))
+      (trace-or trace s (commit m r p))
 
 module _ (s m r : List ℕ) (t : Tried) where
   pub conclude-fine : eqb (t .p .flow .bad) 0 ≡ true → conclude s m r t ≡ carry-out (settle s r (t .p)) m r (t .p) (tracing (sr-of s))
@@ -146,7 +152,8 @@ module _ (s m r : List ℕ) (t : Tried) where
       subst (λ (x : Stepped). Or (plan-event (t .p) (tracing (sr-of s))) (x .event)) (sym (conclude-fine h))
       (carry-out-by (settle s r (t .p)) m r (t .p) (tracing (sr-of s)) (eqb (t .p .write) NoWrite) refl)
   conclude-by false h =
-      subst (λ (x : Stepped). Or (event-of (fault-vector (t .p .flow .bad))) (x .event)) (sym (conclude-faults h)) (fault-or s m (t .p .flow .bad) (t .op))
+      subst (λ (x : Stepped). Or (event-of (fault-vector (t .p .flow .bad))) (x .event)) (sym (conclude-faults h))
+      (fault-or s m (t .p .flow .bad) (t .op))
 
 -- ---- a step
 -- the attempt of an instruction
@@ -177,7 +184,8 @@ module _ (win : Window) (s m : List ℕ) (level vec : ℕ) where
   step-works h k = cc
 
   step-by : (b c : Bool) → interrupted s level ≡ b → eqb (mode-of s) Running ≡ c
-      → Or (pick b (event-of (vec % 256)) (pick c (tried-event (tried win s m .t) (tracing (sr-of s))) NoEvent)) (one-step win s m level vec .event)
+      → Or (pick b (event-of (vec % 256)) (pick c (tried-event (tried win s m .t) (tracing (sr-of s))) NoEvent))
+      (one-step win s m level vec .event)
   step-by true c h k =
       subst (λ (x : Stepped). Or (event-of (vec % 256)) (x .event)) (sym (step-interrupts h)) (exception-or s m vec (interrupt-sr (sr-of s) level))
   step-by false true h k =

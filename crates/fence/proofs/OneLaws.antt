@@ -1,6 +1,6 @@
 -- OneLaws.antt - the theorems of K7 for one step.
--- left-after: from user state a step that takes no exception leaves T, S, mask, SSP and all outside the window; same-step-vector: machines that are alike
--- take the same exception first, unless one halts; same-event, same-clocks, alike-next: what is the same of a step that takes none.
+-- left-after: from user state a step that takes no exception leaves T, S, mask, SSP and all outside the window; same-step-vector: machines that
+-- are alike take the same exception first, unless one halts; same-event, same-clocks, alike-next: what is the same of a step that takes none.
 -- No instruction is looked at: `execute` stays shut.  Uses: bits, flags, bus, plan, bank, exception, execute, step.  Source: [K7].
 use Prim.Native.Nat.{ℕ, _%_, _/_, _<_, _≤_, _^_}
 use native.Mathlib.Omega.{arith}
@@ -99,7 +99,8 @@ module _ (win : Window) (s m : List ℕ) (level vector : ℕ) (u : supervisor (s
   left-by (stands h k) = subst LeftAfter (sym (step-stands win s m level vector h k)) (λ l. left-none win s m)
   left-by (works h k b c) = subst LeftAfter (sym (works-is win s m level vector h k b c)) (left-works b)
 
-  pub left-after : one-step win s m level vector .event ≡ NoEvent → Left win s m (one-step win s m level vector .s) (one-step win s m level vector .m)
+  pub left-after : one-step win s m level vector .event ≡ NoEvent
+      → Left win s m (one-step win s m level vector .s) (one-step win s m level vector .m)
   left-after e = left-by (quiet-of win s m level vector (names-none win s m level vector e)) same
 
 -- ---- theorem 2, one step
@@ -162,7 +163,8 @@ module _ (win : Window) (s t m n : List ℕ) (h : Alike win s t m n) where
         → one-step win s m level vector .event ≡ one-step win t n level vector .event
     same-step-vector p q = joined (step-names win s m level vector) (step-names win t n level vector)
       where
-        joined : Or (step-event win s m level vector) (one-step win s m level vector .event) → Or (step-event win t n level vector) (one-step win t n level vector .event)
+        joined : Or (step-event win s m level vector) (one-step win s m level vector .event)
+            → Or (step-event win t n level vector) (one-step win t n level vector .event)
             → one-step win s m level vector .event ≡ one-step win t n level vector .event
         joined (this a) (this b) = a ∙ same-name ∙ sym b
         joined (halts a) y = absurd (p a)
@@ -207,7 +209,8 @@ module _ (win : Window) (s t m n : List ℕ) (h : Alike win s t m n) where
 
   module _ (level vector : ℕ) where
     alike-by : Quiet win s m level → Quiet win t n level → AlikeAfter (one-step win s m level vector) (one-step win t n level vector)
-    alike-by (stands a b) (stands c d) = subst₂ AlikeAfter (sym (step-stands win s m level vector a b)) (sym (step-stands win t n level vector c d)) h
+    alike-by (stands a b) (stands c d) =
+        subst₂ AlikeAfter (sym (step-stands win s m level vector a b)) (sym (step-stands win t n level vector c d)) h
     alike-by (stands a b) (works c d e f) = absurd (apart b d)
       where
         apart : eqb (mode-of s) Running ≡ false → eqb (mode-of t) Running ≡ true → ⊥

@@ -55,10 +55,12 @@ untraced-none vec e = refl
 
 both-still : (s m : List ℕ) (vec : ℕ) → ltb NoVector vec ≡ false → both s m vec false ≡ still s m
 both-still s m vec h =
-    both-of s m vec (still s m) (still s m) (sym (trap-none s m vec h)) (sym (trap-none s m (traced vec false NoEvent) (untraced-none vec NoEvent)))
+    both-of s m vec (still s m) (still s m) (sym (trap-none s m vec h))
+    (sym (trap-none s m (traced vec false NoEvent) (untraced-none vec NoEvent)))
 
 module _ (s m r : List ℕ) (p : Plan) where
-  left-by : (b : Bool) → eqb (p .write) NoWrite ≡ b → (b && ltb NoVector (trap-of p)) ≡ false → carry-out s m r p false ≡ still s (pick b m (commit m r p))
+  left-by : (b : Bool) → eqb (p .write) NoWrite ≡ b → (b && ltb NoVector (trap-of p)) ≡ false
+      → carry-out s m r p false ≡ still s (pick b m (commit m r p))
   left-by true h c = carry-out-none s m r p false h ∙ both-still s m (trap-of p) c
   left-by false h c = carry-out-write s m r p false h ∙ trap-none s (commit m r p) NoVector refl
 
@@ -73,7 +75,8 @@ pub data Quiet (win : Window) (s m : List ℕ) (level : ℕ) : Type 0 where
       → Calm (tried win s m .t .p) (tracing (sr-of s)) → Quiet win s m level
 
 module _ (win : Window) (s m : List ℕ) (level vector : ℕ) where
-  fine-by : (t : Tried) (trace b : Bool) → eqb (t .p .flow .bad) 0 ≡ b → pick b (plan-event (t .p) trace) (event-of (fault-vector (t .p .flow .bad))) ≡ NoEvent
+  fine-by : (t : Tried) (trace b : Bool) → eqb (t .p .flow .bad) 0 ≡ b
+      → pick b (plan-event (t .p) trace) (event-of (fault-vector (t .p .flow .bad))) ≡ NoEvent
       → (eqb (t .p .flow .bad) 0 ≡ true) × Calm (t .p) trace
   fine-by t trace true h e = (h, calm-of (t .p) trace e)
   fine-by t trace false h e = absurd (omega (arith, e))
@@ -96,7 +99,8 @@ module _ (win : Window) (s m : List ℕ) (level vector : ℕ) where
   -- what an instruction leaves that ends well
   pub works-is : interrupted s level ≡ false → eqb (mode-of s) Running ≡ true → eqb (tried win s m .t .p .flow .bad) 0 ≡ true
       → Calm (tried win s m .t .p) (tracing (sr-of s))
-      → one-step win s m level vector ≡ still (settle s (tried win s m .r) (tried win s m .t .p)) (written-by m (tried win s m .r) (tried win s m .t .p))
+      → one-step win s m level vector ≡ still (settle s (tried win s m .r) (tried win s m .t .p))
+      (written-by m (tried win s m .r) (tried win s m .t .p))
   works-is h k b c =
       let r = tried win s m .r in
       let t = tried win s m .t in
@@ -131,5 +135,6 @@ module _ (win : Window) (s m : List ℕ) (level vector : ℕ) where
   standing (stands h k) = h
   standing (works h k b c) = h
 
-  pub quiet-clocks : Quiet win s m level → step-clocks win s m level vector ≡ pick (eqb (mode-of s) Running) (tried win s m .t .clocks) stopped-clocks
+  pub quiet-clocks : Quiet win s m level
+      → step-clocks win s m level vector ≡ pick (eqb (mode-of s) Running) (tried win s m .t .clocks) stopped-clocks
   quiet-clocks q = clocks-by (eqb (mode-of s) Running) (standing q) refl (quiet-event q)

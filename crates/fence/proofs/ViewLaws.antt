@@ -49,7 +49,9 @@ module _ (win : Window) (m n : List ℕ) (h : Same win m n) where
       first t = h .bytes a (low-end win a 1 t) (omega (arith, high-end win a 1 t))
 
   same-word : (a : ℕ) → word-in m a ≡ word-in n a
-  same-word a = chosen (allowed false win a 2) (ltb (a + 1) (length m)) (ltb (a + 1) (length n)) (two-at m a) (two-at n a) (shorter (a + 1)) (λ t. cc (first t, at a 2 1 t (omega arith)))
+  same-word a =
+      chosen (allowed false win a 2) (ltb (a + 1) (length m)) (ltb (a + 1) (length n)) (two-at m a) (two-at n a) (shorter (a + 1))
+      (λ t. cc (first t, at a 2 1 t (omega arith)))
     where
       first : allowed false win a 2 ≡ true → getD m a 0 ≡ getD n a 0
       first t = h .bytes a (low-end win a 2 t) (omega (arith, high-end win a 2 t))

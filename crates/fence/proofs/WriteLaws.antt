@@ -62,7 +62,8 @@ module _ (win : Window) where
   same-sized : (m n : List ℕ) (a z v : ℕ) → Same win m n → Same win (put-sized m a z v) (put-sized n a z v)
   unfolding put-sized by-size
   same-sized m n a z v h =
-      same-pick (eqb z 0) (put-byte m a v) (put-byte n a v) (pick (eqb z 1) (put-word m a v) (put-long m a v)) (pick (eqb z 1) (put-word n a v) (put-long n a v))
+      same-pick (eqb z 0) (put-byte m a v) (put-byte n a v) (pick (eqb z 1) (put-word m a v) (put-long m a v))
+      (pick (eqb z 1) (put-word n a v) (put-long n a v))
       (same-set m n (pins a) (v % 256) h)
       (same-pick (eqb z 1) (put-word m a v) (put-word n a v) (put-long m a v) (put-long n a v) (same-word m n a v h) (same-long m n a v h))
 
@@ -164,7 +165,8 @@ module _ (win : Window) (m : List ℕ) (j : ℕ) (out : win .lo ≤ j → j < wi
       let k = word-allowed (pins a) t in
       let l = low-end win (pins a) 2 k in
       let u = high-end win (pins a) 2 k in
-      getD-set-other (put-byte n a (x / 256)) (pins (plus a 1)) j (x % 256) 0 (λ h. out-of (pins a + 1) (omega (arith, l)) (omega (arith, u)) (h ∙ after-even a e))
+      getD-set-other (put-byte n a (x / 256)) (pins (plus a 1)) j (x % 256) 0
+      (λ h. out-of (pins a + 1) (omega (arith, l)) (omega (arith, u)) (h ∙ after-even a e))
       ∙ getD-set-other n (pins a) j (x / 256 % 256) 0 (out-of (pins a) l (omega (arith, u)))
 
   module _ (n : List ℕ) (a : ℕ) (f : Flow) (x : ℕ) where
@@ -208,7 +210,8 @@ module _ (win : Window) (m : List ℕ) (j : ℕ) (out : win .lo ≤ j → j < wi
       abbrev turn : Walk → Walk
       turn t = record { held = put-at (t .spot) (t .spot .index) (t .held); spot = next-spot y (t .spot) f }
 
-      part-by : (d : Spot) (i : ℕ) (n : List ℕ) (b : Bool) → listed d ≡ b → eqb (room-one v y d .flow .bad) 0 ≡ true → getD (put-at d i n) j 0 ≡ getD n j 0
+      part-by : (d : Spot) (i : ℕ) (n : List ℕ) (b : Bool) → listed d ≡ b → eqb (room-one v y d .flow .bad) 0 ≡ true
+          → getD (put-at d i n) j 0 ≡ getD n j 0
       part-by d i n true t h = cc (t, sized-out n (d .at) (d .flow) (g i) (y .size) (listed-room d t h))
       part-by d i n false t h = cc
 
@@ -225,7 +228,8 @@ module _ (win : Window) (m : List ℕ) (j : ℕ) (out : win .lo ≤ j → j < wi
     unfolding put-way room-way
     same-way h = cc
 
-    block-by : (b : Bool) → eqb (p .write / 2) Downward ≡ b → eqb (block-room v p .bad) 0 ≡ true → getD (block-put m r (plan-with-flow p f)) j 0 ≡ getD m j 0
+    block-by : (b : Bool) → eqb (p .write / 2) Downward ≡ b → eqb (block-room v p .bad) 0 ≡ true
+        → getD (block-put m r (plan-with-flow p f)) j 0 ≡ getD m j 0
     unfolding block-room block-put block-put-down put-one put-part down-one room-way
     block-by false h t =
         ap (λ (y : Way). getD (iter (put-one r (plan-with-flow p f) y) 16 (record { held = m; spot = first-spot y f }) .held) j 0) (same-way h)

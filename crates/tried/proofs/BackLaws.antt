@@ -1,4 +1,4 @@
--- BackLaws.antt - a row of accepted steps that keeps all records is taken back by as many undos, each of them accepted, over the journal that it left.
+-- BackLaws.antt - a row of accepted steps that keeps all records is taken back by as many undos, each accepted, over the journal that it left.
 -- row-journal: such a row leaves the journal below its first mark, and its length; undo-one: one undo; back-row: all of them.
 -- Uses: bits, numbers, record, undo, oldest, step, calls, tries, fence.  Source: [K7], [01 The journal].
 use Prim.Native.Nat.{ℕ, suc, _+_, _-_, _<_, _≤_}
@@ -69,7 +69,8 @@ module _ (q : Request) (x : Machine) (f : Fit x) (h : answer-to Keeping q x .num
         let l : taken .mark ≤ length (taken .journal) = rw (length-written (x .journal) (x .mark) b roomy) roomy in
         let size = ready-size (x .slots) (x .memory) ready in
         undo-by-back (taken .slots) (taken .memory) j (taken .journal) (taken .mark) inside l same
-        ∙ undo-of-record (x .slots) (taken .slots) (x .memory) (taken .memory) (x .journal) (x .mark) (ready .slots) (sym (k .slots)) (sym (k .memory))
+        ∙ undo-of-record (x .slots) (taken .slots) (x .memory) (taken .memory) (x .journal) (x .mark) (ready .slots) (sym (k .slots))
+        (sym (k .memory))
         (omega (arith, size, k .memory)) (k .few) (ready .values) (ready .bytes) roomy
 
     undo-fits : undo-number (x .window) (taken .slots) (taken .memory) j (taken .mark) ≡ 0
@@ -77,17 +78,17 @@ module _ (q : Request) (x : Machine) (f : Fit x) (h : answer-to Keeping q x .num
     undo-fits =
         let a = ready-state (taken .slots) (taken .memory) after in
         let w : window-fits (x .window) (taken .memory) ≡ true =
-        ap (λ (n : ℕ). leb (x .window .lo) (x .window .hi) && leb (x .window .hi) n) (kept-by (x .slots) (x .memory) ready (x .window) (q .level) (q .vector) .memory)
+        ap (λ (n : ℕ). leb (x .window .lo) (x .window .hi) && leb (x .window .hi) n)
+        (kept-by (x .slots) (x .memory) ready (x .window) (q .level) (q .vector) .memory)
         ∙ accepted-facts Keeping q x takes .window in
         let i = le-ltb (length j) (taken .mark) inside in
         let z : eqb (taken .mark) 0 ≡ false = ne-eqb (taken .mark) 0 (λ e. omega (arith, e, record-is-some)) in
         rw (after .fits, a, w, i, z)
 
-    undo-one : undo-call (x .window) (taken .slots) (taken .memory) j (taken .mark) ≡ record { s = x .slots; m = x .memory; a = record { number = 0; mark = x .mark } }
+    undo-one : undo-call (x .window) (taken .slots) (taken .memory) j (taken .mark)
+        ≡ record { s = x .slots; m = x .memory; a = record { number = 0; mark = x .mark } }
     unfolding undo-call
-    undo-one =
-        let n = undo-number (x .window) (taken .slots) (taken .memory) j (taken .mark) in
-        rw (undo-fits, undone-is)
+    undo-one = rw (undo-fits, undone-is)
 
 -- ---- a row of them
 -- the journal below the first mark, and its length
@@ -133,7 +134,8 @@ module _ (old : Window) where
       back-turn (x .window) r n (y .slots) (y .memory) j (y .mark) (x .slots) (x .memory) (x .mark) (undo-one q x f h j l e)
 
   pub back-row : (qs : List Request) (x : Machine) → Fit x → AllAccepted qs x → (r n : ℕ)
-      → backing-on old (length qs + r) n (after-row Keeping qs x .journal) (after-row Keeping qs x) ≡ backing-on old r (n + length qs) (after-row Keeping qs x .journal) x
+      → backing-on old (length qs + r) n (after-row Keeping qs x .journal) (after-row Keeping qs x)
+      ≡ backing-on old r (n + length qs) (after-row Keeping qs x .journal) x
   back-row [] x f h r n =
       let p : 0 + r ≡ r = omega arith in
       let q : n ≡ n + 0 = omega arith in
@@ -150,7 +152,8 @@ module _ (old : Window) where
       subst (λ (y : Machine). length (z .journal) ≡ length (y .journal) → t .mark ≤ length (z .journal)) (sym g)
       (λ e. omega (arith, e, roomy q x f (h .0), length-written (x .journal) (x .mark) (b q x f (h .0)) (roomy q x f (h .0)))) (s .long) in
       let same : back (z .journal) (t .mark) ≡ back (t .journal) (t .mark) =
-      subst (λ (y : Machine). ((e : ℕ) → e ≤ y .mark → back (z .journal) e ≡ back (y .journal) e) → back (z .journal) (t .mark) ≡ back (t .journal) (t .mark)) (sym g)
+      subst (λ (y : Machine).
+      ((e : ℕ) → e ≤ y .mark → back (z .journal) e ≡ back (y .journal) e) → back (z .journal) (t .mark) ≡ back (t .journal) (t .mark)) (sym g)
       (λ k. k (t .mark) (omega arith)) (s .below) in
       ap (λ (k : ℕ). backing-on old k n (z .journal) z) p
       ∙ back-row qs y (fit-next Keeping q x f) (h .1) (suc r) n

@@ -1,5 +1,6 @@
 -- CourseLaws.antt - the course of a try: calm steps, and then its end.
--- Course, course-of: how the steps of a try go; through: calm steps that are accepted are passed one by one; turn-..: the last turn; goes-..: a whole try.
+-- Course, course-of: how the steps of a try go; through: calm steps that are accepted are passed one by one; turn-..: the last turn;
+-- goes-..: a whole try.
 -- Uses: bits, calls, tries, fence.  Source: [K7].
 use Prim.Native.Nat.{ℕ, zero, suc, _+_}
 use native.Mathlib.Omega.{arith}
@@ -39,7 +40,8 @@ module _ (k n : ℕ) (x : Machine) where
   unfolding trying act
   turn-on h e = cc
 
-  pub turn-ends : takes x ≡ true → quiet x ≡ false → trying-on (suc k) n x ≡ ended-after (answer-to Keeping plain x .event) (n + 1) (next Keeping plain x)
+  pub turn-ends : takes x ≡ true → quiet x ≡ false
+      → trying-on (suc k) n x ≡ ended-after (answer-to Keeping plain x .event) (n + 1) (next Keeping plain x)
   unfolding trying act
   turn-ends h e = cc
 

@@ -1,9 +1,9 @@
 -- TriedLaws.antt - K7's theorems for the pattern tryer.
--- * try-is-its-steps: a try is as many step calls with level 0 as it tells steps; none of them is refused, and those before the last take no exception.
+-- * try-is-its-steps: a try is as many step calls with level 0 as it tells steps; none is refused, and those before the last take no exception.
 -- * try-leaves: theorem 1. Up to the step that takes an exception or halts, T, S, mask, SSP and every byte outside the window stay as they were;
 --   once-calm-is: that is the machine after the try where no step does.
--- * alike-tries: theorem 2. Tries of two machines that are alike take as many steps and end alike: the same refusal, the same vector if neither halts;
---   up to there the answers, records and clocks of their steps are the same.
+-- * alike-tries: theorem 2. Tries of two machines that are alike take as many steps and end alike: the same refusal, the same vector if neither
+--   halts; up to there the answers, records and clocks of their steps are the same.
 -- * take-back: theorem 3. Taking back after any try gives exactly the slots, the memory, the mark and the window before.
 -- Uses: bits, bank, calls, tries, fence.  Source: [K7].
 use Prim.Native.Nat.{ℕ, zero, suc, _+_, _-_}
@@ -30,7 +30,8 @@ use Rattle.fence.proofs.AcceptLaws.{number-told}
 use Rattle.fence.proofs.FenceLaws.{window-stays, fit-next, user-calls-leave, alike-back, same-number, same-call, alike-calls, same-vector}
 use Rattle.fence.proofs.FenceLaws.{keeping-drops}
 use Rattle.fence.proofs.FenceLaws.{keeping-drops-none, in-window}
-use Rattle.tried.specs.Tried.{plain, plains, AllAccepted, try-on, after-try, back-on, calm-steps, once-calm, TryIs, SameEnd, same-end}
+use Rattle.tried.specs.Tried.{plain, plains, AllAccepted, try-on, after-try, back-on, calm-steps, once-calm, taken-back, TryIs, SameEnd}
+use Rattle.tried.specs.Tried.{same-end}
 use Rattle.tried.specs.Tried.{first-halts}
 use Rattle.tried.specs.Tried.{second-halts, SameTry}
 use Rattle.tried.proofs.CourseLaws.{trying-on, ended-at, ended-after, takes, quiet, turn-ends, turn-refused, turn-spent, through, Ends, done}
@@ -56,7 +57,8 @@ row-more : (c : ℕ) (x : Machine) → after-row Keeping (plains (suc c)) x ≡ 
 row-more zero x = refl
 row-more (suc c) x = row-more c (next Keeping plain x)
 
-accepted-more : (c : ℕ) (x : Machine) → AllAccepted (plains c) x → answer-to Keeping plain (after-row Keeping (plains c) x) .number ≡ 0 → AllAccepted (plains (suc c)) x
+accepted-more : (c : ℕ) (x : Machine) → AllAccepted (plains c) x → answer-to Keeping plain (after-row Keeping (plains c) x) .number ≡ 0
+    → AllAccepted (plains (suc c)) x
 accepted-more zero x h e = (e, tt)
 accepted-more (suc c) x h e = (h .0, accepted-more c (next Keeping plain x) (h .1) e)
 
@@ -122,7 +124,8 @@ exceptional a = eqb (a .end) taken-exception || eqb (a .end) halt
 -- what the ends of a try tell
 module _ (event n : ℕ) (z : Machine) where
   after-by : (b : Bool) → eqb event HaltEvent ≡ b
-      → ended-after event n z ≡ pick b (ended halt 0 0 n (z .slots) (z .memory) (z .journal) (z .mark)) (ended taken-exception 0 (event - 1) n (z .slots) (z .memory) (z .journal) (z .mark))
+      → ended-after event n z ≡ pick b (ended halt 0 0 n (z .slots) (z .memory) (z .journal) (z .mark))
+      (ended taken-exception 0 (event - 1) n (z .slots) (z .memory) (z .journal) (z .mark))
   after-by b h = cc
 
   after-steps : ended-after event n z .a .steps ≡ n
@@ -232,12 +235,15 @@ accepted-of (q ∷ qs) x h = (h .0, accepted-of qs (next Keeping q x) (h .1))
 -- the first step of two machines that are alike
 module _ (x y : Machine) (h : AlikeMachines x y) where
   same-told : answer-to Keeping plain x .number ≡ answer-to Keeping plain y .number
-  same-told = number-told Keeping plain x ∙ same-number Keeping plain x y h (keeping-drops plain x) (keeping-drops plain y) ∙ sym (number-told Keeping plain y)
+  same-told =
+      number-told Keeping plain x ∙ same-number Keeping plain x y h (keeping-drops plain x) (keeping-drops plain y)
+      ∙ sym (number-told Keeping plain y)
 
   quiet-too : Fit x → Fit y → quiet x ≡ true → quiet y ≡ true
   quiet-too fx fy e =
+      let calm = eqb-true (answer-to Keeping plain x .event) NoEvent e in
       ap (λ (a : StepAnswer). eqb (a .event) NoEvent)
-      (sym (same-call Keeping plain x y h fx fy (eqb-true (answer-to Keeping plain x .event) NoEvent e) (keeping-drops plain x) (keeping-drops plain y) .answer))
+      (sym (same-call Keeping plain x y h fx fy calm (keeping-drops plain x) (keeping-drops plain y) .answer))
       ∙ e
 
   same-first : (count : ℕ) → first-number count x ≡ first-number count y
@@ -289,11 +295,14 @@ module _ (z u : Machine) (h : AlikeMachines z u) (n : ℕ) where
       go false false p q =
           let x = next Keeping plain z in
           let y = next Keeping plain u in
-          let v = same-vector Keeping plain z u h (keeping-drops plain z) (keeping-drops plain u) (eqb-false e HaltEvent p) (eqb-false f HaltEvent q) in
-          same-end (end-told e x false p ∙ sym (end-told f y false q)) (vector-told e x false p ∙ ap (λ (k : ℕ). k - 1) v ∙ sym (vector-told f y false q))
+          let v = same-vector Keeping plain z u h (keeping-drops plain z) (keeping-drops plain u) (eqb-false e HaltEvent p)
+          (eqb-false f HaltEvent q) in
+          same-end (end-told e x false p ∙ sym (end-told f y false q))
+          (vector-told e x false p ∙ ap (λ (k : ℕ). k - 1) v ∙ sym (vector-told f y false q))
 
 module _ (count : ℕ) (x y : Machine) (h : AlikeMachines x y) (fx : Fit x) (fy : Fit y) where
-  same-by : (t u : TryCall) (c : ℕ) → try-on count x ≡ t → try-on count y ≡ u → t .a .steps ≡ u .a .steps → t .a .number ≡ u .a .number → SameEnd (t .a) (u .a)
+  same-by : (t u : TryCall) (c : ℕ) → try-on count x ≡ t → try-on count y ≡ u → t .a .steps ≡ u .a .steps → t .a .number ≡ u .a .number
+      → SameEnd (t .a) (u .a)
       → calm-steps (t .a) ≡ c → SameRow Keeping (plains c) x y → SameTry count x y
   same-by t u c p q s n e k r =
       record {
@@ -305,7 +314,9 @@ module _ (count : ℕ) (x y : Machine) (h : AlikeMachines x y) (fx : Fit x) (fy 
 
   module _ (c : Course count x) where
     row : SameRow Keeping (plains (c .calm)) x y
-    row = alike-calls Keeping (plains (c .calm)) x y h fx fy (c .quiet) (keeping-drops-none (plains (c .calm)) x) (keeping-drops-none (plains (c .calm)) y)
+    row =
+        alike-calls Keeping (plains (c .calm)) x y h fx fy (c .quiet) (keeping-drops-none (plains (c .calm)) x)
+        (keeping-drops-none (plains (c .calm)) y)
 
     abbrev zx : Machine
     zx = after-row Keeping (plains (c .calm)) x
@@ -317,10 +328,12 @@ module _ (count : ℕ) (x y : Machine) (h : AlikeMachines x y) (fx : Fit x) (fy 
     passed-too =
         let p : 0 + c .calm ≡ c .calm = omega arith in
         ap (λ (k : ℕ). trying-on k 0 y) (c .whole)
-        ∙ through (c .calm) (c .rest) 0 y (accepted-of (plains (c .calm)) y (subst Taking (row .answer) (taking-of (plains (c .calm)) x (c .accepted)))) (row .calm)
+        ∙ through (c .calm) (c .rest) 0 y
+        (accepted-of (plains (c .calm)) y (subst Taking (row .answer) (taking-of (plains (c .calm)) x (c .accepted)))) (row .calm)
         ∙ ap (λ (k : ℕ). trying-on (c .rest) k zy) p
 
-    same-ends : try-on count x ≡ trying-on (c .rest) (c .calm) zx → try-on count y ≡ trying-on (c .rest) (c .calm) zy → Ends (c .rest) zx → SameTry count x y
+    same-ends : try-on count x ≡ trying-on (c .rest) (c .calm) zx → try-on count y ≡ trying-on (c .rest) (c .calm) zy → Ends (c .rest) zx
+        → SameTry count x y
     same-ends p q (done e) =
         let g = ap (λ (k : ℕ). trying-on k (c .calm) zx) e ∙ turn-spent (c .calm) zx in
         let i = ap (λ (k : ℕ). trying-on k (c .calm) zy) e ∙ turn-spent (c .calm) zy in
@@ -329,7 +342,8 @@ module _ (count : ℕ) (x y : Machine) (h : AlikeMachines x y) (fx : Fit x) (fy 
         let s = same-told zx zy (row .alike) in
         let g = ap (λ (k : ℕ). trying-on k (c .calm) zx) e ∙ turn-refused k (c .calm) zx l in
         let i = ap (λ (k : ℕ). trying-on k (c .calm) zy) e ∙ turn-refused k (c .calm) zy (ap (λ (n : ℕ). eqb n 0) (sym s) ∙ l) in
-        same-by (ended-at refused (answer-to Keeping plain zx .number) (c .calm) zx) (ended-at refused (answer-to Keeping plain zy .number) (c .calm) zy) (c .calm)
+        same-by (ended-at refused (answer-to Keeping plain zx .number) (c .calm) zx)
+        (ended-at refused (answer-to Keeping plain zy .number) (c .calm) zy) (c .calm)
         (p ∙ g) (q ∙ i) refl s (same-end refl refl) refl row
     same-ends p q (excepts k e l m) =
         let s = same-told zx zy (row .alike) in
@@ -365,7 +379,7 @@ module _ (count : ℕ) (x y : Machine) (h : AlikeMachines x y) (fx : Fit x) (fy 
 -- ---- theorem 3
 pub take-back : (old : Window) (count : ℕ) (x : Machine) → Fit x
     → back-on old (try-on count x .a .steps) (after-try count x)
-    ≡ record { s = x .slots; m = x .memory; a = record { number = 0; undone = try-on count x .a .steps; mark = x .mark; lo = old .lo; hi = old .hi } }
+    ≡ taken-back old count x
 unfolding backing
 take-back old count x f =
     let t = try-is-its-steps count x in

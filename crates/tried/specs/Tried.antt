@@ -49,6 +49,11 @@ calm-steps a = pick (eqb (a .end) taken-exception || eqb (a .end) halt) (a .step
 abbrev pub once-calm : ℕ → Machine → Machine
 once-calm count x = after-row Keeping (plains (calm-steps (try-on count x .a))) x
 
+-- all of a try taken back: slots, memory and mark as before it, as many steps undone as it took, and the old window  [K7]
+abbrev pub taken-back : Window → ℕ → Machine → BackCall
+taken-back old count x =
+    record { s = x .slots; m = x .memory; a = record { number = 0; undone = try-on count x .a .steps; mark = x .mark; lo = old .lo; hi = old .hi } }
+
 -- a try is as many step calls with level 0 as it tells steps: none is refused, those before the last are calm, and they leave what it leaves  [K7]
 pub record TryIs (count : ℕ) (x : Machine) : Type 0 where
   pub accepted : AllAccepted (plains (try-on count x .a .steps)) x
