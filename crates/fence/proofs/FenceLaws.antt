@@ -4,7 +4,8 @@
 -- * alike-calls: theorem 2. Two machines that agree on all slots but SSP, lo, hi, window bytes, memory length, requests, journal length and mark
 --   give the same answers (numbers, events, marks, clocks), write the same records and stay alike up to there, where neither drops records.
 -- * same-vector: there they take the same exception first, unless one of them halts.
--- * same-number: a call is refused on both with the same number, or on neither. keeping-drops-none: in the manner Keeping no record is dropped.
+-- * same-number: a call is refused on both with the same number, or on neither.
+-- * alike-keeping, vector-keeping: the same in the manner Keeping, which drops no record (keeping-drops-none).
 -- Uses: bits, bus, bank, numbers, record, oldest, step, calls.  Source: [K7], [K5].
 use Prim.Native.Nat.{ℕ, _+_, _-_, _<_, _≤_}
 use native.Mathlib.Omega.{arith}
@@ -329,3 +330,15 @@ module _ (q : Request) (x : Machine) where
 pub keeping-drops-none : (qs : List Request) (x : Machine) → NoneDropped Keeping qs x
 keeping-drops-none [] x = tt
 keeping-drops-none (q ∷ qs) x = (keeping-drops q x, keeping-drops-none qs (next Keeping q x))
+
+-- theorem 2 and the vector in that manner, with no word of records dropped: calm calls, and then one more
+pub alike-keeping : (qs : List Request) (x y : Machine) → AlikeMachines x y → Fit x → Fit y → AllCalm Keeping qs x → SameRow Keeping qs x y
+alike-keeping qs x y h fx fy c = alike-calls Keeping qs x y h fx fy c (keeping-drops-none qs x) (keeping-drops-none qs y)
+
+pub vector-keeping : (qs : List Request) (q : Request) (x y : Machine) → AlikeMachines x y → Fit x → Fit y → AllCalm Keeping qs x
+    → (answer-to Keeping q (after-row Keeping qs x) .event ≡ HaltEvent → ⊥) → (answer-to Keeping q (after-row Keeping qs y) .event ≡ HaltEvent → ⊥)
+    → answer-to Keeping q (after-row Keeping qs x) .event ≡ answer-to Keeping q (after-row Keeping qs y) .event
+vector-keeping qs q x y h fx fy c =
+    let u = after-row Keeping qs x in
+    let v = after-row Keeping qs y in
+    same-vector Keeping q u v (alike-keeping qs x y h fx fy c .alike) (keeping-drops q u) (keeping-drops q v)

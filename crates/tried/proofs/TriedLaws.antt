@@ -3,7 +3,8 @@
 -- * try-leaves: theorem 1. Up to the step that takes an exception or halts, T, S, mask, SSP and every byte outside the window stay as they were;
 --   once-calm-is: that is the machine after the try where no step does.
 -- * alike-tries: theorem 2. Tries of two machines that are alike take as many steps and end alike: the same refusal, the same vector if neither
---   halts; up to there the answers, records and clocks of their steps are the same.
+--   halts; up to there the answers, records and clocks of their steps are the same. same-calm, alike-after: the machines after them are alike where
+--   no step takes an exception or halts.
 -- * take-back: theorem 3. Taking back after any try gives exactly the slots, the memory, the mark and the window before.
 -- Uses: bits, bank, calls, tries, fence.  Source: [K7].
 use Prim.Native.Nat.{ℕ, zero, suc, _+_, _-_}
@@ -375,6 +376,22 @@ module _ (count : ℕ) (x y : Machine) (h : AlikeMachines x y) (fx : Fit x) (fy 
           let u = h .states .user in
           let v = alike-back x y h .states .user in
           same-ends c (goes-on count x k u ∙ passed count x c) (goes-on count y (ap (λ (n : ℕ). eqb n 0) (sym s) ∙ k) v ∙ passed-too c) (c .ends)
+
+-- as many of their steps are calm; and where no step takes an exception or halts the machines after the tries are alike
+calm-by : (a b : TryAnswer) → SameEnd a b → exceptional a ≡ exceptional b
+calm-by a b (same-end p q) = ap (λ (n : ℕ). eqb n taken-exception || eqb n halt) p
+calm-by a b (first-halts p q) = rw (p, q)
+calm-by a b (second-halts p q) = rw (p, q)
+
+module _ (count : ℕ) (x y : Machine) (s : SameTry count x y) where
+  pub same-calm : calm-steps (try-on count x .a) ≡ calm-steps (try-on count y .a)
+  same-calm = cc (calm-by (try-on count x .a) (try-on count y .a) (s .end), s .steps)
+
+  pub alike-after : exceptional (try-on count x .a) ≡ false → AlikeMachines (after-try count x) (after-try count y)
+  alike-after h =
+      let k = sym (calm-by (try-on count x .a) (try-on count y .a) (s .end)) ∙ h in
+      subst₂ AlikeMachines (sym (once-calm-is count x h))
+      (ap (λ (n : ℕ). after-row Keeping (plains n) y) same-calm ∙ sym (once-calm-is count y k)) (s .calm .alike)
 
 -- ---- theorem 3
 pub take-back : (old : Window) (count : ℕ) (x : Machine) → Fit x
