@@ -1,19 +1,23 @@
 -- CourseLaws.antt - the course of a try: calm steps, and then its end.
 -- Course, course-of: how the steps of a try go; through: calm steps that are accepted are passed one by one; turn-..: the last turn;
--- goes-..: a whole try.
+-- goes-..: a whole try. Result, Went, went: how a whole try went. row-..: the machine after a row of calls.
 -- Uses: bits, calls, tries, fence.  Source: [K7].
-use Prim.Native.Nat.{ℕ, zero, suc, _+_}
+use Prim.Native.Nat.{ℕ, zero, suc, _+_, _-_}
 use native.Mathlib.Omega.{arith}
-use mathlib.Core.Path.{_≡_, refl, ap, _∙_}
-use mathlib.Core.Bool.{Bool, true, false}
+use mathlib.Core.Path.{_≡_, refl, ap, _∙_, sym, subst}
+use mathlib.Core.Bool.{Bool, true, false, _||_}
 use lib.Dec.{eqb}
 use borrow.Author.Tests.{eqb-true, eq-eqb}
 use Rattle.codes.specs.Codes.{NoEvent}
 use Rattle.bank.specs.Bank.{sr-of, supervisor}
 use Rattle.calls.specs.declared.Manner.the-variants.{Keeping}
-use Rattle.calls.specs.History.{Machine, act}
-use Rattle.tries.specs.Tries.{spent, supervised, refused, TryCall, ended, ended-by, trying, try-number, try-call}
-use Rattle.fence.specs.Rows.{answer-to, next, after-row, AllCalm}
+use Rattle.calls.specs.History.{Machine, act, Request}
+use Rattle.tries.specs.Tries.{spent, supervised, refused, TryCall, ended, ended-by, trying, try-number, try-call, taken-exception, halt}
+use Rattle.fence.specs.Rows.{answer-to, next, after-row, AllCalm, Fit, LeftMachine}
+use mathlib.Core.List.{List, [], _∷_}
+use lib.ListN.{length}
+use Rattle.fence.proofs.OneLaws.{left-none}
+use Rattle.fence.proofs.FenceLaws.{window-stays, fit-next, user-calls-leave}
 use Rattle.tried.specs.Tried.{plain, plains, AllAccepted, try-on}
 
 -- what is left of a try of a machine
@@ -122,3 +126,77 @@ module _ (count : ℕ) (x : Machine) where
   pub goes-on : eqb (first-number count x) 0 ≡ true → supervisor (sr-of (x .slots)) ≡ false → try-on count x ≡ trying-on count 0 x
   unfolding try-call
   goes-on h u = cc
+
+-- ---- rows
+pub row-window : (qs : List Request) (x : Machine) → after-row Keeping qs x .window ≡ x .window
+row-window [] x = refl
+row-window (q ∷ qs) x = row-window qs (next Keeping q x) ∙ window-stays Keeping q x
+
+pub row-fit : (qs : List Request) (x : Machine) → Fit x → Fit (after-row Keeping qs x)
+row-fit [] x f = f
+row-fit (q ∷ qs) x f = row-fit qs (next Keeping q x) (fit-next Keeping q x f)
+
+pub plains-length : (n : ℕ) → length (plains n) ≡ n
+plains-length zero = refl
+plains-length (suc n) = ap suc (plains-length n)
+
+-- one step more
+pub row-more : (c : ℕ) (x : Machine) → after-row Keeping (plains (suc c)) x ≡ next Keeping plain (after-row Keeping (plains c) x)
+row-more zero x = refl
+row-more (suc c) x = row-more c (next Keeping plain x)
+
+pub accepted-more : (c : ℕ) (x : Machine) → AllAccepted (plains c) x → answer-to Keeping plain (after-row Keeping (plains c) x) .number ≡ 0
+    → AllAccepted (plains (suc c)) x
+accepted-more zero x h e = (e, tt)
+accepted-more (suc c) x h e = (h .0, accepted-more c (next Keeping plain x) (h .1) e)
+
+-- ---- the course of a whole try
+-- a try that ends at z after so many calm steps, or by the event of the step after them
+pub data Result (c : ℕ) (z : Machine) (t : TryCall) : Type 0 where
+  at-rest : (end number : ℕ) → (eqb end taken-exception || eqb end halt) ≡ false → t ≡ ended-at end number c z → Result c z t
+  by-event : takes z ≡ true → quiet z ≡ false → t ≡ ended-after (answer-to Keeping plain z .event) (c + 1) (next Keeping plain z) → Result c z t
+
+result-of : (rest c : ℕ) (z : Machine) → Ends rest z → Result c z (trying-on rest c z)
+result-of rest c z (done e) = at-rest spent 0 refl (ap (λ (k : ℕ). trying-on k c z) e ∙ turn-spent c z)
+result-of rest c z (refuses k e h) =
+    at-rest refused (answer-to Keeping plain z .number) refl (ap (λ (k : ℕ). trying-on k c z) e ∙ turn-refused k c z h)
+result-of rest c z (excepts k e h l) = by-event h l (ap (λ (k : ℕ). trying-on k c z) e ∙ turn-ends k c z h l)
+
+pub record Went (count : ℕ) (x : Machine) : Type 0 where
+  pub calm : ℕ
+  pub accepted : AllAccepted (plains calm) x
+  pub quiet : AllCalm Keeping (plains calm) x
+  pub left : Fit x → LeftMachine x (after-row Keeping (plains calm) x)
+  pub result : Result calm (after-row Keeping (plains calm) x) (try-on count x)
+
+module _ (count : ℕ) (x : Machine) where
+  went-nowhere : (end number : ℕ) → (eqb end taken-exception || eqb end halt) ≡ false → try-on count x ≡ ended-at end number 0 x → Went count x
+  went-nowhere end number k e =
+      record { calm = 0; accepted = tt; quiet = tt; left = λ f. left-none (x .window) (x .slots) (x .memory); result = at-rest end number k e }
+
+  -- a try of calm steps and what follows them
+  pub passed : (c : Course count x) → trying-on count 0 x ≡ trying-on (c .rest) (c .calm) (after-row Keeping (plains (c .calm)) x)
+  passed c =
+      let p : 0 + c .calm ≡ c .calm = omega arith in
+      ap (λ (k : ℕ). trying-on k 0 x) (c .whole)
+      ∙ through (c .calm) (c .rest) 0 x (c .accepted) (c .quiet)
+      ∙ ap (λ (k : ℕ). trying-on (c .rest) k (after-row Keeping (plains (c .calm)) x)) p
+
+  went-on : supervisor (sr-of (x .slots)) ≡ false → try-on count x ≡ trying-on count 0 x → Course count x → Went count x
+  went-on u e c =
+      let z = after-row Keeping (plains (c .calm)) x in
+      record {
+        calm = c .calm;
+        accepted = c .accepted;
+        quiet = c .quiet;
+        left = λ f. user-calls-leave Keeping (plains (c .calm)) x f u (c .quiet);
+        result = subst (Result (c .calm) z) (sym (e ∙ passed c)) (result-of (c .rest) (c .calm) z (c .ends));
+      }
+
+  pub went : Went count x
+  went = go (eqb (first-number count x) 0) refl (supervisor (sr-of (x .slots))) refl
+    where
+      go : (a : Bool) → eqb (first-number count x) 0 ≡ a → (b : Bool) → supervisor (sr-of (x .slots)) ≡ b → Went count x
+      go false h b u = went-nowhere refused (first-number count x) refl (goes-refused count x h)
+      go true h true u = went-nowhere supervised 0 refl (goes-supervised count x h u)
+      go true h false u = went-on u (goes-on count x h u) (course-of count x)

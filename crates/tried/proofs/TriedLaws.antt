@@ -7,7 +7,7 @@
 --   no step takes an exception or halts.
 -- * take-back: theorem 3. Taking back after any try gives exactly the slots, the memory, the mark and the window before.
 -- Uses: bits, bank, calls, tries, fence.  Source: [K7].
-use Prim.Native.Nat.{ℕ, zero, suc, _+_, _-_}
+use Prim.Native.Nat.{ℕ, suc, _+_, _-_}
 use native.Mathlib.Omega.{arith}
 use mathlib.Core.Path.{_≡_, refl, sym, ap, _∙_, subst, subst₂}
 use mathlib.Core.Bool.{Bool, true, false, _||_}
@@ -18,109 +18,29 @@ use borrow.Author.Tests.{eqb-true, eqb-false}
 use Rattle.codes.specs.Codes.{NoEvent, HaltEvent}
 use Rattle.bits.specs.Bits.{pick}
 use Rattle.bus.specs.declared.Window.{Window}
-use Rattle.bank.specs.Bank.{sr-of, supervisor}
 use Rattle.calls.specs.declared.Manner.the-variants.{Keeping}
 use Rattle.calls.specs.declared.StepAnswer.{StepAnswer}
 use Rattle.calls.specs.Calls.{first-tests}
 use Rattle.calls.specs.History.{Machine, Request}
 use Rattle.tries.specs.declared.TryAnswer.{TryAnswer}
-use Rattle.tries.specs.Tries.{spent, supervised, taken-exception, halt, refused, TryCall, ended, try-number, backing}
+use Rattle.tries.specs.Tries.{spent, taken-exception, halt, refused, TryCall, ended, try-number, backing}
 use Rattle.fence.specs.Rows.{Fit, AlikeMachines, LeftMachine, answer-to, next, answers, after-row, AllCalm, SameRow}
-use Rattle.fence.proofs.OneLaws.{left-none, same-sr, same-mode}
+use Rattle.fence.proofs.OneLaws.{same-sr, same-mode}
 use Rattle.fence.proofs.AcceptLaws.{number-told}
-use Rattle.fence.proofs.FenceLaws.{window-stays, fit-next, user-calls-leave, alike-back, same-number, same-call, alike-calls, same-vector}
-use Rattle.fence.proofs.FenceLaws.{keeping-drops}
-use Rattle.fence.proofs.FenceLaws.{keeping-drops-none, in-window}
-use Rattle.tried.specs.Tried.{plain, plains, AllAccepted, try-on, after-try, back-on, calm-steps, once-calm, taken-back, TryIs, SameEnd}
-use Rattle.tried.specs.Tried.{same-end}
-use Rattle.tried.specs.Tried.{first-halts}
-use Rattle.tried.specs.Tried.{second-halts, SameTry}
-use Rattle.tried.proofs.CourseLaws.{trying-on, ended-at, ended-after, takes, quiet, turn-ends, turn-refused, turn-spent, through, Ends, done}
-use Rattle.tried.proofs.CourseLaws.{refuses}
-use Rattle.tried.proofs.CourseLaws.{excepts, Course, course-of, first-number, goes-refused, goes-supervised, goes-on}
+use Rattle.fence.proofs.FenceLaws.{window-stays, alike-back, same-number, same-call, alike-calls, same-vector, keeping-drops, keeping-drops-none}
+use Rattle.fence.proofs.FenceLaws.{in-window}
+use Rattle.tried.specs.Tried.{plain, plains, AllAccepted, try-on, after-try, back-on, exceptional, calm-steps, once-calm, taken-back, TryIs}
+use Rattle.tried.specs.Tried.{SameEnd}
+use Rattle.tried.specs.Tried.{same-end, first-halts, second-halts, SameTry}
+use Rattle.tried.proofs.CourseLaws.{trying-on, ended-at, ended-after, quiet, turn-ends, turn-refused, turn-spent, through, Ends, done}
+use Rattle.tried.proofs.CourseLaws.{refuses, excepts, Course, course-of, first-number, goes-refused, goes-on, row-window, row-fit}
+use Rattle.tried.proofs.CourseLaws.{plains-length, row-more, accepted-more, Result, at-rest, by-event, passed, went}
 use Rattle.tried.proofs.BackLaws.{backing-on, back-row}
-
--- ---- rows
-row-window : (qs : List Request) (x : Machine) → after-row Keeping qs x .window ≡ x .window
-row-window [] x = refl
-row-window (q ∷ qs) x = row-window qs (next Keeping q x) ∙ window-stays Keeping q x
-
-row-fit : (qs : List Request) (x : Machine) → Fit x → Fit (after-row Keeping qs x)
-row-fit [] x f = f
-row-fit (q ∷ qs) x f = row-fit qs (next Keeping q x) (fit-next Keeping q x f)
-
-plains-length : (n : ℕ) → length (plains n) ≡ n
-plains-length zero = refl
-plains-length (suc n) = ap suc (plains-length n)
-
--- one step more
-row-more : (c : ℕ) (x : Machine) → after-row Keeping (plains (suc c)) x ≡ next Keeping plain (after-row Keeping (plains c) x)
-row-more zero x = refl
-row-more (suc c) x = row-more c (next Keeping plain x)
-
-accepted-more : (c : ℕ) (x : Machine) → AllAccepted (plains c) x → answer-to Keeping plain (after-row Keeping (plains c) x) .number ≡ 0
-    → AllAccepted (plains (suc c)) x
-accepted-more zero x h e = (e, tt)
-accepted-more (suc c) x h e = (h .0, accepted-more c (next Keeping plain x) (h .1) e)
-
--- ---- the course of a whole try
--- a try that ends at z after so many calm steps, or by the event of the step after them
-data Result (c : ℕ) (z : Machine) (t : TryCall) : Type 0 where
-  at-rest : (end number : ℕ) → (eqb end taken-exception || eqb end halt) ≡ false → t ≡ ended-at end number c z → Result c z t
-  by-event : takes z ≡ true → quiet z ≡ false → t ≡ ended-after (answer-to Keeping plain z .event) (c + 1) (next Keeping plain z) → Result c z t
-
-result-of : (rest c : ℕ) (z : Machine) → Ends rest z → Result c z (trying-on rest c z)
-result-of rest c z (done e) = at-rest spent 0 refl (ap (λ (k : ℕ). trying-on k c z) e ∙ turn-spent c z)
-result-of rest c z (refuses k e h) =
-    at-rest refused (answer-to Keeping plain z .number) refl (ap (λ (k : ℕ). trying-on k c z) e ∙ turn-refused k c z h)
-result-of rest c z (excepts k e h l) = by-event h l (ap (λ (k : ℕ). trying-on k c z) e ∙ turn-ends k c z h l)
-
-record Went (count : ℕ) (x : Machine) : Type 0 where
-  calm : ℕ
-  accepted : AllAccepted (plains calm) x
-  quiet : AllCalm Keeping (plains calm) x
-  left : Fit x → LeftMachine x (after-row Keeping (plains calm) x)
-  result : Result calm (after-row Keeping (plains calm) x) (try-on count x)
-
-module _ (count : ℕ) (x : Machine) where
-  went-nowhere : (end number : ℕ) → (eqb end taken-exception || eqb end halt) ≡ false → try-on count x ≡ ended-at end number 0 x → Went count x
-  went-nowhere end number k e =
-      record { calm = 0; accepted = tt; quiet = tt; left = λ f. left-none (x .window) (x .slots) (x .memory); result = at-rest end number k e }
-
-  -- a try of calm steps and what follows them
-  passed : (c : Course count x) → trying-on count 0 x ≡ trying-on (c .rest) (c .calm) (after-row Keeping (plains (c .calm)) x)
-  passed c =
-      let p : 0 + c .calm ≡ c .calm = omega arith in
-      ap (λ (k : ℕ). trying-on k 0 x) (c .whole)
-      ∙ through (c .calm) (c .rest) 0 x (c .accepted) (c .quiet)
-      ∙ ap (λ (k : ℕ). trying-on (c .rest) k (after-row Keeping (plains (c .calm)) x)) p
-
-  went-on : supervisor (sr-of (x .slots)) ≡ false → try-on count x ≡ trying-on count 0 x → Course count x → Went count x
-  went-on u e c =
-      let z = after-row Keeping (plains (c .calm)) x in
-      record {
-        calm = c .calm;
-        accepted = c .accepted;
-        quiet = c .quiet;
-        left = λ f. user-calls-leave Keeping (plains (c .calm)) x f u (c .quiet);
-        result = subst (Result (c .calm) z) (sym (e ∙ passed c)) (result-of (c .rest) (c .calm) z (c .ends));
-      }
-
-  went : Went count x
-  went = go (eqb (first-number count x) 0) refl (supervisor (sr-of (x .slots))) refl
-    where
-      go : (a : Bool) → eqb (first-number count x) 0 ≡ a → (b : Bool) → supervisor (sr-of (x .slots)) ≡ b → Went count x
-      go false h b u = went-nowhere refused (first-number count x) refl (goes-refused count x h)
-      go true h true u = went-nowhere supervised 0 refl (goes-supervised count x h u)
-      go true h false u = went-on u (goes-on count x h u) (course-of count x)
 
 -- ---- a try is its steps
 -- the machine that a try leaves, from its call
 abbrev left-by : Machine → TryCall → Machine
 left-by x t = record { window = x .window; slots = t .s; memory = t .m; journal = t .j; mark = t .a .mark }
-
-abbrev exceptional : TryAnswer → Bool
-exceptional a = eqb (a .end) taken-exception || eqb (a .end) halt
 
 -- what the ends of a try tell
 module _ (event n : ℕ) (z : Machine) where

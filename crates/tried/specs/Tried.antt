@@ -3,7 +3,7 @@
 -- Laws: proofs/TriedLaws.antt.  Source: [K7].
 use Prim.Native.Nat.{ℕ, zero, suc, _-_}
 use mathlib.Core.Path.{_≡_}
-use mathlib.Core.Bool.{_||_}
+use mathlib.Core.Bool.{Bool, _||_}
 use mathlib.Core.List.{List, [], _∷_}
 use lib.Dec.{eqb}
 use Rattle.bits.specs.Bits.{pick}
@@ -41,9 +41,13 @@ after-try count x =
 abbrev pub back-on : Window → ℕ → Machine → BackCall
 back-on old steps x = back-call (x .window) old (x .slots) (x .memory) (x .journal) (x .mark) steps
 
+-- whether the last step of a try took an exception or halted  [K7]
+abbrev pub exceptional : TryAnswer → Bool
+exceptional a = eqb (a .end) taken-exception || eqb (a .end) halt
+
 -- how many steps of a try take no exception and do not halt: all of them, or all but the last  [K7]
 abbrev pub calm-steps : TryAnswer → ℕ
-calm-steps a = pick (eqb (a .end) taken-exception || eqb (a .end) halt) (a .steps - 1) (a .steps)
+calm-steps a = pick (exceptional a) (a .steps - 1) (a .steps)
 
 -- the machine once those are taken: the one before the last step where that takes an exception or halts, else the one after the try  [K7]
 abbrev pub once-calm : ℕ → Machine → Machine
