@@ -1,0 +1,344 @@
+-- FenceLaws.antt - K7's theorems for rows of step calls, in either manner.
+-- * user-calls-leave: theorem 1. From user state, before the first step that takes an exception or halts, T, S, mask, SSP and every byte outside the
+--   window stay as they were.
+-- * alike-calls: theorem 2. Two machines that agree on all slots but SSP, lo, hi, window bytes, memory length, requests, journal length and mark
+--   give the same answers (numbers, events, marks, clocks), write the same records and stay alike up to there, where neither drops records.
+-- * same-vector: there they take the same exception first, unless one of them halts.
+-- * same-number: a call is refused on both with the same number, or on neither.
+-- * alike-keeping, vector-keeping: the same in the manner Keeping, which drops no record (keeping-drops-none).
+-- Uses: bits, bus, bank, numbers, record, oldest, step, calls.  Source: [K7], [K5].
+use Prim.Native.Nat.{ℕ, _+_, _-_, _<_, _≤_}
+use native.Mathlib.Omega.{arith}
+use mathlib.Core.Path.{_≡_, refl, sym, ap, _∙_, subst, subst₂}
+use mathlib.Core.Bool.{Bool, true, false, not}
+use mathlib.Core.List.{List, [], _∷_}
+use lib.ListN.{length, take}
+use lib.Seq.{slice, slice-empty, drop-at, length-take-le}
+use lib.Dec.{ltb, eqb}
+use borrow.Author.Tests.{ltb-true}
+use Rattle.codes.specs.Codes.{Halted, TopLevel, NoEvent, HaltEvent}
+use Rattle.bits.specs.Bits.{pick}
+use Rattle.bits.proofs.BitsLaws.{and-left}
+use Rattle.bus.specs.declared.Window.{Window}
+use Rattle.bank.specs.Bank.{sr-of, mode-of, supervisor}
+use Rattle.numbers.specs.Number.{written}
+use Rattle.numbers.proofs.WrittenLaws.{length-written, take-written}
+use Rattle.record.specs.Limits.{longest-record}
+use Rattle.oldest.specs.Room.{rows-of}
+use Rattle.step.specs.Steps.{one-step}
+use Rattle.calls.specs.declared.Manner.{Manner}
+use Rattle.calls.specs.declared.Manner.the-variants.{Dropping, Keeping}
+use Rattle.calls.specs.declared.StepAnswer.{StepAnswer}
+use Rattle.calls.specs.Calls.{memory-fits, state-fits, window-fits, first-tests, no-room, is-torn, torn-way, StepCall, step-tests, step-number}
+use Rattle.calls.specs.Calls.{step-taken, step-with-room}
+use Rattle.calls.specs.History.{Machine, Request, act}
+use Rattle.fence.specs.Fence.{Left}
+use Rattle.fence.specs.Rows.{Fit, AlikeMachines, LeftMachine, answer-to, next, record-left, after-row, AllCalm, NoneDropped, SameRow}
+use Rattle.fence.proofs.OneLaws.{left-none, same-sr, same-mode, user-too, same-event, same-clocks, alike-next, same-step-vector}
+use Rattle.fence.proofs.AcceptLaws.{Ready, ready-words, ready-next, record-fits, accepted-facts, ready-accepted, number-of, step-of-it}
+use Rattle.fence.proofs.AcceptLaws.{called}
+use Rattle.fence.proofs.AcceptLaws.{one, record-of-it, next-is, accepted-call, refused-answer, refused-next, accepted-next, step-slots}
+use Rattle.fence.proofs.AcceptLaws.{step-memory}
+use Rattle.fence.proofs.AcceptLaws.{event-told, room-free, plain-answer, plain-call, taken-plainly}
+use Rattle.fence.proofs.RecordLaws.{left-next, same-record}
+
+-- ---- one call: what is kept of a machine
+pub window-stays : (w : Manner) (q : Request) (x : Machine) → next w q x .window ≡ x .window
+unfolding act
+window-stays w q x = refl
+
+fit-ready : (x : Machine) → Ready (x .slots) (x .memory) → Fit x
+fit-ready x h = record { slots = h .slots; words = ready-words (x .slots) (x .memory) h; bytes = h .bytes }
+
+module _ (w : Manner) (q : Request) (x : Machine) (f : Fit x) where
+  fit-by : (b : Bool) → eqb (number-of w q x) 0 ≡ b → Fit (next w q x)
+  fit-by true h =
+      let r = ready-next (x .slots) (x .memory) (ready-accepted w q x f h) (x .window) (q .level) (q .vector) in
+      subst Fit (sym (accepted-next w q x h))
+      (fit-ready (called w q x (step-of-it w q x)) (subst₂ Ready (sym (step-slots w q x)) (sym (step-memory w q x)) r))
+  fit-by false h = subst Fit (sym (refused-next w q x h)) f
+
+  pub fit-next : Fit (next w q x)
+  fit-next = fit-by (eqb (number-of w q x) 0) refl
+
+  left-by : (b : Bool) → eqb (number-of w q x) 0 ≡ b → supervisor (sr-of (x .slots)) ≡ false → answer-to w q x .event ≡ NoEvent
+      → LeftMachine x (next w q x)
+  left-by true h u e =
+      let l =
+      left-next (x .window) (x .slots) (x .memory) (ready-accepted w q x f h) u (q .level) (q .vector) (sym (event-told w q x h) ∙ e) in
+      subst (LeftMachine x) (sym (accepted-next w q x h))
+      (subst₂ (Left (x .window) (x .slots) (x .memory)) (sym (step-slots w q x)) (sym (step-memory w q x)) l)
+  left-by false h u e = subst (LeftMachine x) (sym (refused-next w q x h)) (left-none (x .window) (x .slots) (x .memory))
+
+  left-call : supervisor (sr-of (x .slots)) ≡ false → answer-to w q x .event ≡ NoEvent → LeftMachine x (next w q x)
+  left-call u e = left-by (eqb (number-of w q x) 0) refl u e
+
+-- ---- theorem 1
+module _ (win : Window) (s m t n o p : List ℕ) (a : Left win s m t n) where
+  left-then : Left win t n o p → Left win s m o p
+  left-then b =
+      record {
+        system =
+            record {
+              trace = b .system .trace ∙ a .system .trace;
+              super = b .system .super ∙ a .system .super;
+              mask = b .system .mask ∙ a .system .mask;
+            };
+        ssp = b .ssp ∙ a .ssp;
+        long = b .long ∙ a .long;
+        outside = λ i out. b .outside i out ∙ a .outside i out;
+      }
+
+  pub still-user : supervisor (sr-of s) ≡ false → supervisor (sr-of t) ≡ false
+  still-user u = ap (λ (k : ℕ). eqb k 1) (a .system .super) ∙ u
+
+pub user-calls-leave : (w : Manner) (qs : List Request) (x : Machine) → Fit x → supervisor (sr-of (x .slots)) ≡ false → AllCalm w qs x
+    → LeftMachine x (after-row w qs x)
+user-calls-leave w [] x f u c = left-none (x .window) (x .slots) (x .memory)
+user-calls-leave w (q ∷ qs) x f u c =
+    let y = next w q x in
+    let z = after-row w qs y in
+    let a = left-call w q x f u (c .0) in
+    let b = user-calls-leave w qs y (fit-next w q x f) (still-user (x .window) (x .slots) (x .memory) (y .slots) (y .memory) [] [] a u) (c .1) in
+    left-then (x .window) (x .slots) (x .memory) (y .slots) (y .memory) (z .slots) (z .memory) a
+    (subst (λ (win : Window). Left win (y .slots) (y .memory) (z .slots) (z .memory)) (window-stays w q x) b)
+
+-- ---- refusals: the tests give their own number, or what is last
+data Last (f : ℕ → ℕ) : Type 0 where
+  passes : ((l : ℕ) → f l ≡ l) → Last f
+  stops : ((l k : ℕ) → f l ≡ f k) → Last f
+
+last-pick : (b : Bool) (n : ℕ) (f : ℕ → ℕ) → Last f → Last (λ l. pick b n (f l))
+last-pick true n f h = stops (λ l k. refl)
+last-pick false n f h = h
+
+tests-last : (w : Manner) (win : Window) (s m : List ℕ) (level : ℕ) (j : List ℕ) (mark : ℕ) → Last (step-tests w win s m level j mark)
+unfolding step-tests first-tests
+tests-last w win s m level j mark =
+    let a : Last (λ l. l) = passes (λ l. refl) in
+    let b = last-pick (eqb (mode-of s) Halted) 6 _ a in
+    let c = last-pick (no-room w j mark) 5 _ b in
+    let d = last-pick (ltb (length j) mark) 4 _ c in
+    let e = last-pick (ltb TopLevel level) 3 _ d in
+    let f = last-pick (not (window-fits win m)) 10 _ e in
+    let g = last-pick (not (state-fits s)) 2 _ f in
+    last-pick (not (memory-fits m)) 1 _ g
+
+module _ (x y : Machine) (h : AlikeMachines x y) where
+  same-room : (w : Manner) → no-room w (x .journal) (x .mark) ≡ no-room w (y .journal) (y .mark)
+  same-room Dropping = ap (λ (n : ℕ). ltb n longest-record) (h .journal)
+  same-room Keeping = cc (h .journal, h .mark)
+
+  tests : Manner → Request → Machine → ℕ → ℕ
+  tests w q x l = step-tests w (x .window) (x .slots) (x .memory) (q .level) (x .journal) (x .mark) l
+
+  same-tests : (w : Manner) (q : Request) (l : ℕ) → tests w q x l ≡ tests w q y l
+  unfolding tests step-tests first-tests
+  same-tests w q l =
+      let sr = same-sr (x .window) (x .slots) (y .slots) (x .memory) (y .memory) (h .states) in
+      let mode = same-mode (x .window) (x .slots) (y .slots) (x .memory) (y .memory) (h .states) in
+      cc (sr, mode, same-room w, h .states .memory .long, h .window, h .journal, h .mark)
+
+-- two machines are alike either way round
+pub alike-back : (x y : Machine) → AlikeMachines x y → AlikeMachines y x
+alike-back x y h =
+    let a = h .states in
+    record {
+      window = sym (h .window);
+      states =
+          record {
+            user = user-too (x .window) (x .slots) (y .slots) (x .memory) (y .memory) a;
+            slots = sym (a .slots);
+            memory =
+                record {
+                  long = sym (a .memory .long);
+                  bytes = λ i l u. sym (a .memory .bytes i (rw (h .window) l) (rw (h .window) u));
+                };
+          };
+      journal = sym (h .journal);
+      mark = sym (h .mark);
+    }
+
+-- a journal that is torn is short of room
+torn-short : (w : Manner) (len : ℕ) (j : List ℕ) (mark : ℕ) → torn-way w len j mark ≡ true → length j - mark < longest-record
+torn-short Dropping len j mark t =
+    ltb-true (length j - mark) longest-record (and-left (ltb (length j - mark) longest-record) (is-torn (rows-of len j mark)) t)
+torn-short Keeping len j mark t = absurd (let z : _≡_ {A = ℕ} 0 1 = cc (t) in omega (arith, z))
+
+module _ (w : Manner) (q : Request) where
+  abbrev torn-of : Machine → Bool
+  torn-of x = torn-way w (length (x .memory)) (x .journal) (x .mark)
+
+  number-by : (x : Machine) (b : Bool) → torn-of x ≡ b
+      → number-of w q x ≡ step-tests w (x .window) (x .slots) (x .memory) (q .level) (x .journal) (x .mark) (pick b 8 0)
+  unfolding step-number
+  number-by x b e = cc
+
+  -- torn in one alone: then a test before it gave the number, or the other dropped records
+  number-apart : (x y : Machine) → AlikeMachines x y → answer-to w q y .dropped ≡ 0 → torn-of x ≡ true → torn-of y ≡ false
+      → number-of w q x ≡ number-of w q y
+  unfolding tests
+  number-apart x y h d a b = go (tests-last w (x .window) (x .slots) (x .memory) (q .level) (x .journal) (x .mark))
+    where
+      go : Last (step-tests w (x .window) (x .slots) (x .memory) (q .level) (x .journal) (x .mark)) → number-of w q x ≡ number-of w q y
+      go (passes p) =
+          let z : number-of w q y ≡ 0 = number-by y false b ∙ sym (same-tests x y h w q 0) ∙ p 0 in
+          let f = room-free w q y (ap (λ (n : ℕ). eqb n 0) z) d in
+          absurd (omega (arith, f, torn-short w (length (x .memory)) (x .journal) (x .mark) a, h .journal, h .mark))
+      go (stops p) = number-by x true a ∙ p 8 0 ∙ same-tests x y h w q 0 ∙ sym (number-by y false b)
+
+  pub same-number : (x y : Machine) → AlikeMachines x y → answer-to w q x .dropped ≡ 0 → answer-to w q y .dropped ≡ 0
+      → number-of w q x ≡ number-of w q y
+  unfolding tests
+  same-number x y h d e = go (torn-of x) (torn-of y) refl refl
+    where
+      go : (b c : Bool) → torn-of x ≡ b → torn-of y ≡ c → number-of w q x ≡ number-of w q y
+      go true true a b = number-by x true a ∙ same-tests x y h w q 8 ∙ sym (number-by y true b)
+      go false false a b = number-by x false a ∙ same-tests x y h w q 0 ∙ sym (number-by y false b)
+      go true false a b = number-apart x y h e a b
+      go false true a b = sym (number-apart y x (alike-back x y h) d b a)
+
+-- ---- one call on two machines that are alike
+-- what a step that drops nothing leaves of the journal
+module _ (w : Manner) (q : Request) (x : Machine) (f : Fit x) (h : eqb (number-of w q x) 0 ≡ true) (e : answer-to w q x .dropped ≡ 0) where
+  pub record-room : x .mark + length (record-of-it w q x) ≤ length (x .journal)
+  record-room =
+      let r = record-fits (x .slots) (x .memory) (ready-accepted w q x f h) (x .window) (q .level) (q .vector) in
+      omega (arith, r, room-free w q x h e, accepted-facts w q x h .inside)
+
+  pub plain-next : next w q x ≡ called w q x (plain-call w q x h e)
+  plain-next = next-is w q x ∙ ap (called w q x) (taken-plainly w q x h e)
+
+  pub plain-told : answer-to w q x ≡ plain-answer w q x h e
+  plain-told = ap (λ (c : StepCall). c .a) (taken-plainly w q x h e)
+
+  record-is : record-left w q x ≡ record-of-it w q x
+  record-is =
+      let b = record-of-it w q x in
+      ap (λ (z : Machine). slice (x .mark) (z .mark) (z .journal)) plain-next
+      ∙ ap (lib.ListN.drop (x .mark)) (take-written (x .journal) (x .mark) b record-room)
+      ∙ drop-at (take (x .mark) (x .journal)) b (x .mark) (length-take-le (x .mark) (x .journal) (accepted-facts w q x h .inside))
+
+record-none : (w : Manner) (q : Request) (x : Machine) → eqb (number-of w q x) 0 ≡ false → record-left w q x ≡ []
+record-none w q x h = ap (λ (z : Machine). slice (x .mark) (z .mark) (z .journal)) (refused-next w q x h) ∙ slice-empty (x .mark) (x .journal)
+
+pub record SameCall (w : Manner) (q : Request) (x y : Machine) : Type 0 where
+  pub answer : answer-to w q x ≡ answer-to w q y
+  pub written : record-left w q x ≡ record-left w q y
+  pub alike : AlikeMachines (next w q x) (next w q y)
+
+-- a machine with another window
+abbrev pub in-window : Window → Machine → Machine
+in-window win y = record { window = win; slots = y .slots; memory = y .memory; journal = y .journal; mark = y .mark }
+
+-- the second machine with the window of the first
+module _ (w : Manner) (q : Request) (x z : Machine) where
+  abbrev y : Machine
+  y = in-window (x .window) z
+
+  module _ (h : AlikeMachines x y) (fx : Fit x) (fy : Fit y) (e : answer-to w q x .event ≡ NoEvent) (dx : answer-to w q x .dropped ≡ 0)
+      (dy : answer-to w q y .dropped ≡ 0) where
+    both-number : (b : Bool) → eqb (number-of w q x) 0 ≡ b → eqb (number-of w q y) 0 ≡ b
+    both-number b k = ap (λ (n : ℕ). eqb n 0) (sym (same-number w q x y h dx dy)) ∙ k
+
+    same-by : (b : Bool) → eqb (number-of w q x) 0 ≡ b → SameCall w q x y
+    same-by true k =
+        let l = both-number true k in
+        let win = x .window in
+        let s = x .slots in
+        let t = y .slots in
+        let m = x .memory in
+        let n = y .memory in
+        let a = h .states in
+        let quiet = sym (event-told w q x k) ∙ e in
+        let quiet-too = same-event win s t m n a (q .level) (q .vector) quiet in
+        let clocks = same-clocks win s t m n a (q .level) (q .vector) quiet in
+        let r = same-record win s t m n (ready-accepted w q x fx k) (ready-accepted w q y fy l) a (q .level) (q .vector) quiet in
+        record {
+          answer = cc (plain-told w q x fx k dx, plain-told w q y fy l dy, quiet, quiet-too, clocks, r, h .mark);
+          written = record-is w q x fx k dx ∙ r ∙ sym (record-is w q y fy l dy);
+          alike =
+              subst₂ AlikeMachines (sym (plain-next w q x fx k dx)) (sym (plain-next w q y fy l dy))
+              (record {
+                window = refl;
+                states = alike-next win s t m n a (q .level) (q .vector) quiet;
+                journal =
+                    length-written (x .journal) (x .mark) (record-of-it w q x) (record-room w q x fx k dx)
+                    ∙ h .journal
+                    ∙ sym (length-written (y .journal) (y .mark) (record-of-it w q y) (record-room w q y fy l dy));
+                mark = cc (r, h .mark);
+              });
+        }
+    same-by false k =
+        let l = both-number false k in
+        record {
+          answer = cc (refused-answer w q x k, refused-answer w q y l, same-number w q x y h dx dy, h .mark);
+          written = record-none w q x k ∙ sym (record-none w q y l);
+          alike = subst₂ AlikeMachines (sym (refused-next w q x k)) (sym (refused-next w q y l)) h;
+        }
+
+pub same-call : (w : Manner) (q : Request) (x y : Machine) → AlikeMachines x y → Fit x → Fit y → answer-to w q x .event ≡ NoEvent
+    → answer-to w q x .dropped ≡ 0 → answer-to w q y .dropped ≡ 0 → SameCall w q x y
+same-call w q x y h fx fy e dx dy =
+    let g : in-window (x .window) y ≡ y = ap (λ (win : Window). in-window win y) (h .window) in
+    subst (λ (z : Machine). AlikeMachines x z → Fit z → answer-to w q z .dropped ≡ 0 → SameCall w q x z) g
+    (λ a f d. same-by w q x y a fx f e dx d (eqb (number-of w q x) 0) refl) h fy dy
+
+-- ---- theorem 2
+pub alike-calls : (w : Manner) (qs : List Request) (x y : Machine) → AlikeMachines x y → Fit x → Fit y → AllCalm w qs x
+    → NoneDropped w qs x → NoneDropped w qs y → SameRow w qs x y
+alike-calls w [] x y h fx fy c dx dy = record { answer = refl; written = refl; calm = tt; alike = h }
+alike-calls w (q ∷ qs) x y h fx fy c dx dy =
+    let s = same-call w q x y h fx fy (c .0) (dx .0) (dy .0) in
+    let r = alike-calls w qs (next w q x) (next w q y) (s .alike) (fit-next w q x fx) (fit-next w q y fy) (c .1) (dx .1) (dy .1) in
+    record {
+      answer = cc (s .answer, r .answer);
+      written = cc (s .written, r .written);
+      calm = (ap (λ (a : StepAnswer). a .event) (sym (s .answer)) ∙ c .0, r .calm);
+      alike = r .alike;
+    }
+
+-- the vector of the step that is not calm
+pub same-vector : (w : Manner) (q : Request) (x y : Machine) → AlikeMachines x y → answer-to w q x .dropped ≡ 0 → answer-to w q y .dropped ≡ 0
+    → (answer-to w q x .event ≡ HaltEvent → ⊥) → (answer-to w q y .event ≡ HaltEvent → ⊥) → answer-to w q x .event ≡ answer-to w q y .event
+same-vector w q x y h dx dy = go (eqb (number-of w q x) 0) refl
+  where
+    go : (b : Bool) → eqb (number-of w q x) 0 ≡ b → (answer-to w q x .event ≡ HaltEvent → ⊥) → (answer-to w q y .event ≡ HaltEvent → ⊥)
+        → answer-to w q x .event ≡ answer-to w q y .event
+    go true k p r =
+        let l = ap (λ (n : ℕ). eqb n 0) (sym (same-number w q x y h dx dy)) ∙ k in
+        let g : one w q y .event ≡ one-step (x .window) (y .slots) (y .memory) (q .level) (q .vector) .event =
+        ap (λ (win : Window). one-step win (y .slots) (y .memory) (q .level) (q .vector) .event) (sym (h .window)) in
+        event-told w q x k
+        ∙ same-step-vector (x .window) (x .slots) (y .slots) (x .memory) (y .memory) (h .states) (q .level) (q .vector)
+        (λ e. p (event-told w q x k ∙ e)) (λ e. r (event-told w q y l ∙ g ∙ e))
+        ∙ sym g ∙ sym (event-told w q y l)
+    go false k p r =
+        let l = ap (λ (n : ℕ). eqb n 0) (sym (same-number w q x y h dx dy)) ∙ k in
+        ap (λ (a : StepAnswer). a .event) (refused-answer w q x k) ∙ sym (ap (λ (a : StepAnswer). a .event) (refused-answer w q y l))
+
+-- ---- the manner that keeps all records
+module _ (q : Request) (x : Machine) where
+  keeping-by : (b : Bool) → eqb (number-of Keeping q x) 0 ≡ b → answer-to Keeping q x .dropped ≡ 0
+  unfolding step-with-room step-taken
+  keeping-by true h = ap (λ (c : StepCall). c .a .dropped) (accepted-call Keeping q x h)
+  keeping-by false h = ap (λ (a : StepAnswer). a .dropped) (refused-answer Keeping q x h)
+
+  pub keeping-drops : answer-to Keeping q x .dropped ≡ 0
+  keeping-drops = keeping-by (eqb (number-of Keeping q x) 0) refl
+
+pub keeping-drops-none : (qs : List Request) (x : Machine) → NoneDropped Keeping qs x
+keeping-drops-none [] x = tt
+keeping-drops-none (q ∷ qs) x = (keeping-drops q x, keeping-drops-none qs (next Keeping q x))
+
+-- theorem 2 and the vector in that manner, with no word of records dropped: calm calls, and then one more
+pub alike-keeping : (qs : List Request) (x y : Machine) → AlikeMachines x y → Fit x → Fit y → AllCalm Keeping qs x → SameRow Keeping qs x y
+alike-keeping qs x y h fx fy c = alike-calls Keeping qs x y h fx fy c (keeping-drops-none qs x) (keeping-drops-none qs y)
+
+pub vector-keeping : (qs : List Request) (q : Request) (x y : Machine) → AlikeMachines x y → Fit x → Fit y → AllCalm Keeping qs x
+    → (answer-to Keeping q (after-row Keeping qs x) .event ≡ HaltEvent → ⊥) → (answer-to Keeping q (after-row Keeping qs y) .event ≡ HaltEvent → ⊥)
+    → answer-to Keeping q (after-row Keeping qs x) .event ≡ answer-to Keeping q (after-row Keeping qs y) .event
+vector-keeping qs q x y h fx fy c =
+    let u = after-row Keeping qs x in
+    let v = after-row Keeping qs y in
+    same-vector Keeping q u v (alike-keeping qs x y h fx fy c .alike) (keeping-drops q u) (keeping-drops q v)

@@ -1,0 +1,100 @@
+-- RecordLaws.antt - two machines that are alike write the same record: a place that is not the same in both is changed in neither.
+-- Matched, same-diffs; left-next: theorem 1 of one step from a valid state; same-record: the law.
+-- Uses: bits, bus, record, bank, step.  Source: [K7], [01 The journal].
+use Prim.Native.Nat.{ℕ, suc, _<_, _≤_}
+use native.Mathlib.Omega.{arith}
+use mathlib.Core.Path.{_≡_, refl, sym, _∙_, subst}
+use mathlib.Core.Bool.{Bool, true, false}
+use mathlib.Core.List.{List, [], _∷_}
+use lib.ListN.{length, getD}
+use lib.Dec.{ltb, leb, eqb}
+use borrow.Author.Tests.{leb-true, ltb-true, eqb-true, eqb-false, leb-false, ltb-false}
+use Rattle.codes.specs.Codes.{Ssp, NoEvent}
+use Rattle.bus.specs.declared.Window.{Window}
+use Rattle.bank.specs.Bank.{sr-of, supervisor}
+use Rattle.record.specs.Change.{changed, diffs, step-record}
+use Rattle.record.proofs.ChangeLaws.{changed-same}
+use Rattle.exception.specs.Exceptions.{Stepped}
+use Rattle.step.specs.Steps.{one-step}
+use Rattle.fence.specs.Fence.{Alike, Left}
+use Rattle.fence.proofs.OneLaws.{left-after, same-event, alike-next, user-too, slot}
+use Rattle.fence.proofs.AcceptLaws.{Ready, ready-ssp, kept-by}
+
+-- at one place: the two agree before and after, or neither changes
+data Matched (a b c d : ℕ) : Type 0 where
+  both-agree : a ≡ c → b ≡ d → Matched a b c d
+  both-keep : a ≡ b → c ≡ d → Matched a b c d
+
+same-change : (i a b c d : ℕ) → Matched a b c d → changed i a b ≡ changed i c d
+same-change i a b c d (both-agree p q) = cc
+same-change i a b c d (both-keep p q) = changed-same i {o = a} {n = b} p ∙ sym (changed-same i {o = c} {n = d} q)
+
+same-diffs : (i : ℕ) (a b c d : List ℕ) → length a ≡ length b → length a ≡ length c → length a ≡ length d
+    → ((k : ℕ) → Matched (getD a k 0) (getD b k 0) (getD c k 0) (getD d k 0)) → diffs i a b ≡ diffs i c d
+same-diffs i [] b [] d p q r h = refl
+same-diffs i [] b (x ∷ c) d p q r h = absurd (omega (arith, q))
+same-diffs i (x ∷ a) [] c d p q r h = absurd (omega (arith, p))
+same-diffs i (x ∷ a) (y ∷ b) [] d p q r h = absurd (omega (arith, q))
+same-diffs i (x ∷ a) (y ∷ b) (z ∷ c) [] p q r h = absurd (omega (arith, r))
+same-diffs i (x ∷ a) (y ∷ b) (z ∷ c) (u ∷ d) p q r h =
+    cc (same-change i x y z u (h 0), same-diffs (suc i) a b c d (omega (arith, p)) (omega (arith, q)) (omega (arith, r)) (λ k. h (suc k)))
+
+-- in the window or not
+module _ (win : Window) (a : ℕ) {P : Type 0} (inside : win .lo ≤ a → a < win .hi → P) (outside : (win .lo ≤ a → a < win .hi → ⊥) → P) where
+  window-or-not : P
+  window-or-not = go (leb (win .lo) a) (ltb a (win .hi)) refl refl
+    where
+      go : (b c : Bool) → leb (win .lo) a ≡ b → ltb a (win .hi) ≡ c → P
+      go true true p q = inside (leb-true (win .lo) a p) (ltb-true a (win .hi) q)
+      go true false p q = outside (λ l u. omega (arith, u, ltb-false a (win .hi) q))
+      go false c p q = outside (λ l u. omega (arith, l, leb-false (win .lo) a p))
+
+-- SSP or another slot
+ssp-or-not : (P : ℕ → Type 0) (k : ℕ) → P Ssp → ((k ≡ Ssp → ⊥) → P k) → P k
+ssp-or-not P k p q = go (eqb k Ssp) refl
+  where
+    go : (b : Bool) → eqb k Ssp ≡ b → P k
+    go true e = subst P (sym (eqb-true k Ssp e)) p
+    go false e = q (eqb-false k Ssp e)
+
+-- theorem 1 of one step from a valid state
+pub left-next : (win : Window) (s m : List ℕ) → Ready s m → supervisor (sr-of s) ≡ false → (level vector : ℕ)
+    → one-step win s m level vector .event ≡ NoEvent → Left win s m (one-step win s m level vector .s) (one-step win s m level vector .m)
+left-next win s m h u level vector e = left-after win s m level vector u (ready-ssp s m h) (kept-by s m h win level vector .memory) e
+
+module _ (win : Window) (s t m n : List ℕ) (hs : Ready s m) (ht : Ready t n) (h : Alike win s t m n) (level vector : ℕ)
+    (e : one-step win s m level vector .event ≡ NoEvent) where
+  abbrev a : Stepped
+  a = one-step win s m level vector
+
+  abbrev b : Stepped
+  b = one-step win t n level vector
+
+  next-alike : Alike win (a .s) (b .s) (a .m) (b .m)
+  next-alike = alike-next win s t m n h level vector e
+
+  left : Left win s m (a .s) (a .m)
+  left = left-next win s m hs (h .user) level vector e
+
+  left-too : Left win t n (b .s) (b .m)
+  left-too = left-next win t n ht (user-too win s t m n h) level vector (same-event win s t m n h level vector e)
+
+  byte-matched : (i : ℕ) → Matched (getD m i 0) (getD (a .m) i 0) (getD n i 0) (getD (b .m) i 0)
+  byte-matched i =
+      window-or-not win i (λ l u. both-agree (h .memory .bytes i l u) (next-alike .memory .bytes i l u))
+      (λ out. both-keep (sym (left .outside i out)) (sym (left-too .outside i out)))
+
+  slot-matched : (k : ℕ) → Matched (getD s k 0) (getD (a .s) k 0) (getD t k 0) (getD (b .s) k 0)
+  slot-matched k =
+      ssp-or-not (λ i. Matched (getD s i 0) (getD (a .s) i 0) (getD t i 0) (getD (b .s) i 0)) k
+      (both-keep (sym (left .ssp)) (sym (left-too .ssp)))
+      (λ p. both-agree (slot win s t m n h k p) (slot win (a .s) (b .s) (a .m) (b .m) next-alike k p))
+
+  pub same-record : step-record s (a .s) m (a .m) ≡ step-record t (b .s) n (b .m)
+  same-record =
+      let la = kept-by s m hs win level vector in
+      let lb = kept-by t n ht win level vector in
+      let ms = same-diffs 0 m (a .m) n (b .m) (sym (la .memory)) (h .memory .long) (h .memory .long ∙ sym (lb .memory)) byte-matched in
+      let both-slots : length s ≡ length t = hs .slots ∙ sym (ht .slots) in
+      let ss = same-diffs 0 s (a .s) t (b .s) (sym (la .slots)) both-slots (both-slots ∙ sym (lb .slots)) slot-matched in
+      cc (ms, ss)
