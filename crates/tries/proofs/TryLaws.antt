@@ -1,5 +1,4 @@
 -- TryLaws.antt - the loops of the tryer: what is left of a try, or of taking back, done now, gives the whole one's answer.
--- * number-..: the returns of try_number.
 -- * Trying, trying-start, trying-again; tries-spent, -refused, -halts, -excepts. try-refuses, try-supervised, try-goes: the returns of try_pattern.
 -- * Backing, backing-start, backing-again; backs-all, backs-refused.
 -- Uses: bits, bank, calls.  Source: [K7].
@@ -8,9 +7,8 @@ use native.Mathlib.Omega.{arith}
 use mathlib.Core.Path.{_≡_, refl, sym, ap, _∙_}
 use mathlib.Core.Bool.{Bool, true, false, not}
 use mathlib.Core.List.{List}
-use lib.ListN.{length}
-use lib.Dec.{ltb, eqb}
-use borrow.Author.Tests.{ltb-true, ltb-false, eqb-true, eqb-false, not-true, not-false}
+use lib.Dec.{eqb}
+use borrow.Author.Tests.{eqb-true, eqb-false, not-true, not-false}
 use Rattle.bits.specs.Bits.{pick}
 use Rattle.bus.specs.declared.Window.{Window}
 use Rattle.bank.specs.Bank.{sr-of, mode-of, supervisor}
@@ -26,6 +24,10 @@ use Rattle.tries.specs.Tries.{TryCall, ended, trying, try-number, try-ca
 use Rattle.tries.specs.Promises.{TryPromise, BackPromise}
 
 -- ---- the steps of a try
+-- an event that is not none is above 0
+pub loud-event : (e : ℕ) → not (eqb e 0) ≡ true → 1 ≤ e
+loud-event e t = let f = eqb-false e 0 (not-true (eqb e 0) t) in omega arith
+
 -- at the loop's head, n steps done: what is left gives the whole
 pub record Trying (win : Window) (b : ℕ) (s₀ m₀ j₀ : List ℕ) (mark₀ : ℕ) (s m j : List ℕ) (mark n : ℕ) : Type 0 where
   pub le : n ≤ b
@@ -35,13 +37,13 @@ pub trying-start : (win : Window) (b : ℕ) (s m j : List ℕ) (mark : ℕ) → 
 trying-start win b s m j mark = record { le = omega arith; rest = (let e : b - 0 ≡ b = omega arith in rw e) }
 
 module _ {win : Window} {b : ℕ} {s₀ m₀ j₀ : List ℕ} {mark₀ : ℕ} {s m j : List ℕ} {mark n : ℕ} (i : Trying win b s₀ m₀ j₀ mark₀ s m j mark n) where
-  pub tries-spent : ltb n b ≡ false → ended 1 0 0 n s m j mark ≡ trying win b 0 s₀ m₀ j₀ mark₀
+  pub tries-spent : b ≤ n → ended 1 0 0 n s m j mark ≡ trying win b 0 s₀ m₀ j₀ mark₀
   unfolding trying
-  tries-spent h = let z : b - n ≡ 0 = (let l : b ≤ n = ltb-false n b h in omega arith) in rw z at (i .rest)
+  tries-spent h = let z : b - n ≡ 0 = omega arith in rw z at (i .rest)
 
-  module _ (h : ltb n b ≡ true) {s₁ m₁ j₁ : List ℕ} {a : StepAnswer} (p : StepPromise Keeping win s m 0 0 j mark s₁ m₁ j₁ a) where
+  module _ (h : n < b) {s₁ m₁ j₁ : List ℕ} {a : StepAnswer} (p : StepPromise Keeping win s m 0 0 j mark s₁ m₁ j₁ a) where
     more : b - n ≡ suc (b - (n + 1))
-    more = let l : n < b = ltb-true n b h in omega arith
+    more = omega arith
 
     now-left : trying win (suc (b - (n + 1))) n s m j mark ≡ trying win b 0 s₀ m₀ j₀ mark₀
     now-left = rw more at (i .rest)
@@ -98,7 +100,7 @@ module _ {win : Window} {b : ℕ} {s₀ m₀ j₀ : List ℕ} {mark₀ : ℕ} {s
           ap (λ (x : ℕ). eqb x 0) (sym event-is) ∙ not-false (eqb (a .event) 0) v in
           let e = rw (z, q) at now-left in
           record {
-            le = (let l : n < b = ltb-true n b h in omega arith);
+            le = omega arith;
             rest = cc (e, p .slots, p .memory, p .journal, p .answer);
           }
 
@@ -148,13 +150,13 @@ module _ {win old : Window} {b : ℕ} {s₀ m₀ j : List ℕ} {mark₀ : ℕ} {
   backed s₁ m₁ a e =
       record { slots = ap (λ (c : BackCall). c .s) e; memory = ap (λ (c : BackCall). c .m) e; answer = ap (λ (c : BackCall). c .a) e }
 
-  pub backs-all : ltb n b ≡ false → BackPromise win old s₀ m₀ j mark₀ b s m (record { number = 0; undone = n; mark = mark; lo = old .lo; hi = old .hi })
+  pub backs-all : b ≤ n → BackPromise win old s₀ m₀ j mark₀ b s m (record { number = 0; undone = n; mark = mark; lo = old .lo; hi = old .hi })
   unfolding backing
-  backs-all h = let z : b - n ≡ 0 = (let l : b ≤ n = ltb-false n b h in omega arith) in backed s m _ (rw z at (i .rest))
+  backs-all h = let z : b - n ≡ 0 = omega arith in backed s m _ (rw z at (i .rest))
 
-  module _ (h : ltb n b ≡ true) {s₁ m₁ : List ℕ} {a : UndoAnswer} (p : UndoPromise win s m j mark s₁ m₁ a) where
+  module _ (h : n < b) {s₁ m₁ : List ℕ} {a : UndoAnswer} (p : UndoPromise win s m j mark s₁ m₁ a) where
     one-more : b - n ≡ suc (b - (n + 1))
-    one-more = let l : n < b = ltb-true n b h in omega arith
+    one-more = omega arith
 
     left-now : backing win old (suc (b - (n + 1))) n s m j mark ≡ backing win old b 0 s₀ m₀ j mark₀
     left-now = rw one-more at (i .rest)
@@ -180,6 +182,6 @@ module _ {win old : Window} {b : ℕ} {s₀ m₀ j : List ℕ} {mark₀ : ℕ} {
         let g : eqb (undo-call win s m j mark .a .number) 0 ≡ true = ap (λ (x : ℕ). eqb x 0) (sym undo-number-is) ∙ not-false (eqb (a .number) 0) t in
         let e = rw g at left-now in
         record {
-          le = (let l : n < b = ltb-true n b h in omega arith);
+          le = omega arith;
           rest = cc (e, p .slots, p .memory, p .answer);
         }
