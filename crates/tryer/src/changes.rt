@@ -159,7 +159,8 @@ pub fn tell_memory(before: &[u8], after: &[u8], b: Bounds) {
     for i in 0..before.len() {
         tell_place(before, after, b, i);
     }
-    if compare::same(before, after) {
+    let frame = b.frame;
+    if compare::same(before, after) && frame.length == 0 {
         text(b"  none\n");
     }
 }

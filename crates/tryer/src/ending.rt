@@ -1,8 +1,6 @@
 // ending.rt - how many steps a try took and why it ended; of an exception what its frame says.
 // Means: nothing; proved safe.
 // Uses: codes, bits, tries, names, printing.  Source: [K7]; the frames are those of [003 4.3.4], [003 4.4.9.1].
-//
-// A read of program space is a fetch of a word of the instruction, or of an operand whose address goes by PC.
 use crate::names;
 use crate::printing::address;
 use crate::printing::counted;
@@ -68,7 +66,7 @@ fn tell_kind(info: u32) {
         text(b"write");
     }
     if info % 4 == 2 {
-        text(b" (fetch)");
+        text(b" (a fetch, or an operand relative to PC)");
     }
     if info / 4 % 2 == 1 {
         text(b" by the supervisor");
@@ -159,7 +157,8 @@ fn tell_refusal(number: u32) {
 pub fn tell(a: TryAnswer, f: Frame, slots: &[u32; SLOTS], memory: &[u8]) {
     text(b"result: ");
     counted(a.steps as u64, b"step");
-    match a.end {
+    let end = a.end;
+    match end {
         tries::SPENT => text(b", ended since all that were allowed are spent"),
         tries::SUPERVISED => text(b": the start is in supervisor state, which is not tried"),
         tries::TAKEN_EXCEPTION => tell_exception(a.vector, f, memory),
