@@ -1,6 +1,6 @@
 // main.rt - what a moderator runs on a stranger's pattern: it is tried in its window, what it did is told, and all is taken back.
 // Means: nothing; proved safe. What a try and taking it back are stands in specs/Tries.antt of the crate tries.
-// Uses: codes, bus, machine, tries, compare, io, libc, os.  Source: [K7].
+// Uses: codes, bus, calls, machine, tries, compare, io, libc, os.  Source: [K7].
 //
 // ./run tryer [LO [HI [STEPS [PC [STACK]]]]] < IMAGE
 //
@@ -16,6 +16,7 @@ mod printing;
 mod words;
 
 use bus::Window;
+use calls::ResetAnswer;
 use changes::Bounds;
 use codes::SLOTS;
 use libc::STDIN_FILENO;
@@ -110,51 +111,90 @@ fn tell_compared(slots: bool, memory: bool, mark: bool, window: bool) {
     }
 }
 
-// Tries, tells what that did, takes it back, and compares.
-fn try_it(
-    a: Asked,
-    slots: &mut [u32; SLOTS],
-    memory: &mut [u8],
+// Tells the result of a try, and what it changed.
+fn tell_tried(
+    t: TryAnswer,
+    win: Window,
+    start: &[u32; SLOTS],
+    slots: &[u32; SLOTS],
     before: &[u8],
-    journal: &mut [u8],
+    memory: &[u8],
 ) {
-    let start = *slots;
-    let win = a.win;
-    let old = a.old;
-    let t = tries::try_pattern(slots, win, memory, a.steps, journal, 0);
     let frame = ending::frame_of(t, slots);
     ending::tell(t, frame, slots, memory);
-    changes::tell_slots(&start, slots);
+    changes::tell_slots(start, slots);
     changes::tell_memory(before, memory, Bounds { win, frame });
-    let b = tries::take_back(slots, win, memory, journal, t.mark, t.steps, old);
-    tell_back(t, b);
+}
+
+// Compares with what was there before the try.
+fn compare_all(
+    b: BackAnswer,
+    old: Window,
+    start: &[u32; SLOTS],
+    slots: &[u32; SLOTS],
+    before: &[u8],
+    memory: &[u8],
+) {
     tell_compared(
-        compare::same_slots(&start, slots),
+        compare::same_slots(start, slots),
         compare::same(before, memory),
         b.mark == 0,
         (b.lo == old.lo) & (b.hi == old.hi),
     );
 }
 
-// Resets by the image, and sets the start.
+// Tries, tells what that did, takes it back, and compares.
+fn try_it(
+    a: Asked,
+    slots: &mut [u32; SLOTS],
+    before: &[u8],
+    memory: &mut [u8],
+    journal: &mut [u8],
+) {
+    let start = *slots;
+    let win = a.win;
+    let old = a.old;
+    let t = tries::try_pattern(slots, win, memory, a.steps, journal, 0);
+    tell_tried(t, win, &start, slots, before, memory);
+    let b = tries::take_back(slots, win, memory, journal, t.mark, t.steps, old);
+    tell_back(t, b);
+    compare_all(b, old, &start, slots, before, memory);
+}
+
+fn lend(
+    a: Asked,
+    slots: &mut [u32; SLOTS],
+    before: &[u8; MEMORY],
+    memory: &mut [u8; MEMORY],
+    journal: &mut [u8; JOURNAL],
+) {
+    try_it(a, slots, before, memory, journal);
+}
+
+// What the words ask, where the window before is the reset's.
+fn what_is_asked(w: Words, r: ResetAnswer) -> Asked {
+    let win = Window {
+        lo: words::value(w.lo),
+        hi: words::value(w.hi),
+    };
+    let old = Window { lo: r.lo, hi: r.hi };
+    Asked {
+        win,
+        old,
+        steps: words::value(w.steps),
+    }
+}
+
+// Resets by the image, sets the start, and tries.
 fn try_image(n: usize, w: Words, memory: &mut [u8; MEMORY]) {
     let mut slots = [0u32; SLOTS];
     let mut journal = [0u8; JOURNAL];
     let before = *memory;
     let r = machine::reset(&mut slots, memory);
     set_user(&mut slots, w);
-    let win = Window {
-        lo: words::value(w.lo),
-        hi: words::value(w.hi),
-    };
-    let old = Window { lo: r.lo, hi: r.hi };
-    let a = Asked {
-        win,
-        old,
-        steps: words::value(w.steps),
-    };
+    let a = what_is_asked(w, r);
     tell_asked(n, a, &slots);
-    try_it(a, &mut slots, memory, &before, &mut journal);
+    lend(a, &mut slots, &before, memory, &mut journal);
 }
 
 fn main() {
