@@ -1,6 +1,6 @@
 | behaves.s - a pattern that behaves: it knits a row of eight stitches, a pair at a time, and says by TRAP #0 that it is done.
 | ./run tryer 1000 2000 < patterns/behaves.bin: 23 steps (2, four times 5, and the TRAP), and vector 32.
-| Source: [ours], put into bytes by hand.  tools/pattern_image.py patterns/behaves.s > patterns/behaves.bin
+| Source: [ours], put into bytes by hand.  tools/patterns patterns/behaves.s > patterns/behaves.bin
 |
 | address      bytes             instruction               what it does
 000000         0000 8000         SSP                       where an exception puts its frame: outside the window

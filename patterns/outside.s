@@ -1,6 +1,6 @@
 | outside.s - a pattern that writes outside its window: its row has no end, and the fifth stitch would stand at $2000.
 | ./run tryer 1000 2000 < patterns/outside.bin: 11 steps (2, four times 2, and the MOVE that fails), and vector 2.
-| Source: [ours], put into bytes by hand.  tools/pattern_image.py patterns/outside.s > patterns/outside.bin
+| Source: [ours], put into bytes by hand.  tools/patterns patterns/outside.s > patterns/outside.bin
 |
 | address      bytes             instruction               what it does
 000000         0000 8000         SSP                       where an exception puts its frame: outside the window

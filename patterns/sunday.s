@@ -1,6 +1,6 @@
 | sunday.s - a pattern that sets the supervisor bit, the Sunday's: after four stitches it wants SR, and then the vectors.
 | ./run tryer 1000 2000 < patterns/sunday.bin: 3 steps, and vector 8. What follows the third instruction is never reached.
-| Source: [ours], put into bytes by hand.  tools/pattern_image.py patterns/sunday.s > patterns/sunday.bin
+| Source: [ours], put into bytes by hand.  tools/patterns patterns/sunday.s > patterns/sunday.bin
 |
 | address      bytes             instruction               what it does
 000000         0000 8000         SSP                       where an exception puts its frame: outside the window

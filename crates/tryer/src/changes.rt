@@ -1,6 +1,6 @@
 // changes.rt - what a try changed: slots by name, memory as runs of neighbouring addresses, each before and after.
 // Means: nothing; proved safe.
-// Uses: codes, bus, ending, names, printing.  Source: [ours].
+// Uses: codes, bus, compare, ending, names, printing.  Source: [ours].
 use crate::ending::Frame;
 use crate::names;
 use crate::printing::byte;
@@ -124,11 +124,12 @@ fn tell_bytes(bytes: &[u8], from: usize, n: usize) {
 }
 
 fn tell_where(b: Bounds, i: usize) {
-    if !in_window(b, i) {
+    let outside = !in_window(b, i);
+    if outside {
         text(b", outside the window");
     }
     if in_frame(b, i) {
-        text(b", of the exception's frame");
+        text(b": the frame of the exception");
     }
     text(b"\n");
 }

@@ -1,6 +1,6 @@
 // ending.rt - how many steps a try took and why it ended; of an exception what its frame says.
 // Means: nothing; proved safe.
-// Uses: codes, bits, tries, names, printing.  Source: [K7]; the frames are those of [003 4.3.4], [003 4.4.9.1].
+// Uses: codes, bits, tries, names, printing.  Source: [K7]; the frames are those of [003 4.3.4] and [003 4.4.9.1], the function codes of [003 4-1].
 use crate::names;
 use crate::printing::address;
 use crate::printing::counted;

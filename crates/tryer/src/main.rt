@@ -2,13 +2,13 @@
 // Means: nothing; proved safe. What a try and taking it back are stands in specs/Tries.antt of the crate tries.
 // Uses: codes, bus, calls, machine, tries, compare, io, libc, os.  Source: [K7].
 //
-// ./run tryer [LO [HI [STEPS [PC [STACK]]]]] < IMAGE
+//     ./run tryer LO HI STEPS PC STACK < IMAGE
 //
 // The image, up to 65,536 bytes, stands at address 0 of a memory of 65,536 bytes. After a reset by it the pattern starts in user state, with
 // registers of 0: in the window from LO to below HI (0 and 10000), for at most STEPS steps (100000), at PC (the reset's), with STACK as its
-// stack pointer (HI). LO, HI, PC and STACK are in base 16 with nothing before the digits, STEPS is in base 10; a dash stands for
-// what is in parentheses. Where the image has 0 for SSP, it is memory's end, so that an exception finds room for its frame. The journal
-// has 4 MiB: some 400,000 ordinary steps.
+// stack pointer (HI). LO, HI, PC and STACK are in base 16 with nothing before the digits, STEPS is in base 10. Words may be left out from the
+// last on, and a dash stands for what is in parentheses. Where the image has 0 for SSP it is memory's end, so that an exception finds room for
+// its frame. The journal has 4 MiB: some 400,000 ordinary steps.
 mod changes;
 mod ending;
 mod names;
@@ -201,7 +201,7 @@ fn main() {
     let w = words::read();
     if !words::are_good(w) {
         words::complain(
-            b"usage: ./run tryer [LO [HI [STEPS [PC [STACK]]]]] < IMAGE, with STEPS in base 10, all else in base 16\n",
+            b"usage: ./run tryer [LO HI STEPS PC STACK] < IMAGE; STEPS is in base 10, the others in base 16, - is the default\n",
         );
         return;
     }

@@ -1,6 +1,6 @@
 // names.rt - vectors, refusals, registers and modes by name, for a person.
 // Means: nothing; proved safe.
-// Uses: codes, printing.  Source: [003 4.2, table 4-2], [01 Calls, table], [K7].
+// Uses: codes, printing.  Source: [003 4-2], [01 Calls, table], [K7].
 use crate::printing::decimal;
 use crate::printing::text;
 
