@@ -29,7 +29,8 @@ use Rattle.step.specs.Steps as Steps
 use Rattle.examples.specs.Paper.{everything}
 use Rattle.examples.specs.ClockRows.{Row, memory-of, clock-rows}
 
-pub clock-rows-hold : map (λ (e : Row). Steps.step-clocks (everything (memory-of (e .words))) (e .slots) (memory-of (e .words)) (e .level) 24) clock-rows ≡ map (λ (e : Row). e .clocks) clock-rows
+pub clock-rows-hold : map (λ (e : Row). Steps.step-clocks (everything (memory-of (e .words))) (e .slots) (memory-of (e .words)) (e .level) 24) clock-rows
+    ≡ map (λ (e : Row). e .clocks) clock-rows
 unfolding Count.onesIn Bits.iter Bits.by-size Bits.sign-byte Bits.sign-word
     Flags.flags Flags.condition-by Flags.condition
     Bus.all-of Bus.seen-by Bus.read-byte Bus.read-word Bus.read-long Bus.read-sized Bus.room Bus.next-word Bus.next-long Bus.put-word Bus.put-long Bus.put-sized

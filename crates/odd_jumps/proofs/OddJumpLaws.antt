@@ -134,7 +134,8 @@ module _ (j : Nine) (win : Window) (s m : List ℕ) (level vector : ℕ) (h : Od
       leads-keeps-sr (sight win s m) j (bank s) op (word-at-pc win s m .flow) ∙ next-word-keeps-sr (sight win s m) (fresh (pc-of s) (sr-of s)) in
       cc
 
-  executed : execute (bank s) (sight win s m) op (word-at-pc win s m .flow) ≡ dispatch (kind j) (bank s) (sight win s m) op (word-at-pc win s m .flow)
+  executed : execute (bank s) (sight win s m) op (word-at-pc win s m .flow)
+      ≡ dispatch (kind j) (bank s) (sight win s m) op (word-at-pc win s m .flow)
   executed =
       let f = word-at-pc win s m .flow in
       let z : f .sr ≡ sr-of s = next-word-keeps-sr (sight win s m) (fresh (pc-of s) (sr-of s)) in
