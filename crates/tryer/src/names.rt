@@ -56,10 +56,12 @@ pub fn refusal(number: u32) {
         4 => text(b"the mark lies past the journal's end"),
         5 => text(b"the journal is full: another step may not find room for its record"),
         6 => text(b"the machine is halted"),
+        7 => text(b"the journal has no record to undo"),
+        8 => text(b"the journal's last bytes are no record"),
         10 => text(
             b"the window is none: its start lies above its end, or its end above the memory's",
         ),
-        _ => text(b"the journal's last bytes are no record that can be undone"),
+        _ => text(b"none that a try or an undo has"),
     }
 }
 
