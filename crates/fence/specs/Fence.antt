@@ -21,7 +21,7 @@ pub record Alike (win : Window) (s t m n : List ℕ) : Type 0 where
   pub slots : set s Ssp 0 ≡ set t Ssp 0
   pub memory : Same win m n
 
--- a status register with the same T, S and mask  [003 1.3.2] [K7]
+-- a status register with the same T, S and mask  [003 1.2] [K7]
 pub record SameSystem (sr new : ℕ) : Type 0 where
   pub trace : new / Trace % 2 ≡ sr / Trace % 2
   pub super : new / Supervisor % 2 ≡ sr / Supervisor % 2
