@@ -213,6 +213,7 @@ def window_lines(cases):
         ends = [e + by * (k == end) for k, e in enumerate(case.window)]
         yield STEP_SLOTS, case.through(name, *ends)
     outside = first("MOVE.B:(An)>Dn wx ")
+    assert outside.blamed() < outside.length
     yield STEP_SLOTS, outside.through("all-of-memory", 0, outside.length)
     yield STEP_SLOTS, outside.but("window-left-out", last=[outside.timed])
     odd = first("ORI.W:#>abs.L wo ")
@@ -221,6 +222,7 @@ def window_lines(cases):
     yield STEP_SLOTS, odd.but("window-before-odd", (SLOTS_AFTER, odd.changes(taken)))
     case = first("MOVE.L:Dn>Dn w0 ")
     lo, hi = case.window
+    assert lo < hi
     yield STEP_SLOTS, case.through("empty", 0, 0)
     yield STEP_SLOTS, case.through("empty-at-end", case.length, case.length)
     yield STEP_NUMBER, case.through("turned", hi, lo)
