@@ -127,7 +127,8 @@ class Case:
 
     def pointed(self):
         """The address in the register that the operation word names last: what (An) means, in user state."""
-        return self.start[A0 + self.number_at(self.fetched(), 2) % 8] % ADDRESSES
+        register = self.number_at(self.fetched(), 2) % 8
+        return self.start[register + A0] % ADDRESSES
 
     def blamed(self):
         """The address of the access that failed, out of the frame."""
