@@ -10,8 +10,8 @@ the clocks of its cases in the same order, a number to a line: they become the l
 that change what a step does, k3/NAME.vec.gz and k4/NAME.vec.gz have the cases that are then other, with their clocks:
 each takes the place of the case with the same first seven fields. k7/NAME.vec.gz has cases of its own, whole as they
 stand. Chosen are, of the cases whose memory is 65,536 bytes or less: all of choice, halt, interrupt, oddjump, scope and
-k7/interrupt; of every other file three cases of each name, spread evenly over those that it has; but of k7's, which
-have the same names four times over, three of each instruction, and what is then still missing of one for each pair of
+k7/interrupt; of every other file three cases of each name, spread evenly over those that it has, but of k7's, where
+that would be most of the gate's cases, three of each instruction and what is then still missing of one for each pair of
 operand kinds; and what is then still missing of three for each flag string. Where there are fewer, all. The choice
 depends on nothing but the files, and keeps their order.
 """

@@ -127,7 +127,8 @@ class Case:
 
     def pointed(self):
         """The address in the register that the operation word names last: what (An) means, in user state."""
-        return self.start[A0 + self.number_at(self.fetched(), 2) % 8] % ADDRESSES
+        register = self.number_at(self.fetched(), 2) % 8
+        return self.start[register + A0] % ADDRESSES
 
     def blamed(self):
         """The address of the access that failed, out of the frame."""
@@ -213,6 +214,7 @@ def window_lines(cases):
         ends = [e + by * (k == end) for k, e in enumerate(case.window)]
         yield STEP_SLOTS, case.through(name, *ends)
     outside = first("MOVE.B:(An)>Dn wx ")
+    assert outside.blamed() < outside.length
     yield STEP_SLOTS, outside.through("all-of-memory", 0, outside.length)
     yield STEP_SLOTS, outside.but("window-left-out", last=[outside.timed])
     odd = first("ORI.W:#>abs.L wo ")
@@ -221,6 +223,7 @@ def window_lines(cases):
     yield STEP_SLOTS, odd.but("window-before-odd", (SLOTS_AFTER, odd.changes(taken)))
     case = first("MOVE.L:Dn>Dn w0 ")
     lo, hi = case.window
+    assert lo < hi
     yield STEP_SLOTS, case.through("empty", 0, 0)
     yield STEP_SLOTS, case.through("empty-at-end", case.length, case.length)
     yield STEP_NUMBER, case.through("turned", hi, lo)

@@ -1,7 +1,7 @@
 // main.rt - the papers' examples that are run and compared: ADD.B, the halt of $4AFC with an odd SSP, the journal's 535 and 536 bytes,
-// budget 0, by the calls that keep all records; and a full journal, in either manner.
+// budget 0, by the calls that keep all records; a full journal, in either manner; and the window, which a reset gives and calls refuse.
 // Means: nothing; its stored output is the papers' text, worked out by hand.
-// Uses: codes, keeping, machine, compare, io.  Source: [01 Set down and proved], [K5].
+// Uses: codes, bus, keeping, machine, compare, io.  Source: [01 Set down and proved], [K5], [K7].
 //
 // What a call leaves is held against what the papers say, and then, so that a comparison which forgets something is seen, against the same with
 // one slot or one byte altered, each of them in its turn: all of those must differ.
@@ -97,8 +97,13 @@ fn tell_short_journal(journal: &[u8; 535], paper: [u8; 535]) {
     tell_bytes(b"journal", journal, &mut wanted);
 }
 
-// The window of all cases: all of a memory of 1,024 bytes.
+// The window of the cases that speak of none: all of a memory of 1,024 bytes.
 const ALL: Window = Window { lo: 0, hi: 1024 };
+
+// One that ends past memory, and one whose ends are not in their order.
+const PAST: Window = Window { lo: 0, hi: 1025 };
+
+const TURNED: Window = Window { lo: 2, hi: 1 };
 
 // A memory of 1,024 bytes with the word at $200.
 fn memory_with(high: u8, low: u8) -> [u8; 1024] {
@@ -265,6 +270,70 @@ fn torn_run() {
     tell_journal(&j, [0u8; 536]);
 }
 
+// A reset gives the window 0 to the memory's length; the vectors are 0.
+fn reset_window() {
+    let mut s = slots_with(1, 1, 1, 1, 1, 2);
+    let m = memory_with(112, 1);
+    let a = machine::reset(&mut s, &m);
+    show(b"reset: number ", a.number);
+    show(b", lo ", a.lo);
+    show(b", hi ", a.hi);
+    end_line();
+    tell_slots(&s, slots_with(0, 0, 0, 0, 9984, 0));
+}
+
+// And a refused one 0 and 0: memory has 1,022 bytes.
+fn refused_reset_window() {
+    let mut s = slots_with(1, 1, 1, 1, 1, 0);
+    let m = [0u8; 1022];
+    let a = machine::reset(&mut s, &m);
+    show(b"reset of 1022 bytes: number ", a.number);
+    show(b", lo ", a.lo);
+    show(b", hi ", a.hi);
+    end_line();
+    tell_slots(&s, slots_with(0, 0, 0, 0, 0, 2));
+}
+
+// A step with a window that ends past memory: refused, and nothing is altered.
+fn step_past() {
+    let mut s = slots_with(0, 0, 1024, 512, 9984, 0);
+    let mut m = memory_with(112, 1);
+    let mut j = [0u8; 536];
+    let a = keeping::step_keeping(&mut s, PAST, &mut m, 0, 0, &mut j, 0);
+    show(b"a window to 1025, a step: number ", a.number);
+    end_line();
+    tell_slots(&s, slots_with(0, 0, 1024, 512, 9984, 0));
+    tell_memory(&m, memory_with(112, 1));
+    tell_journal(&j, [0u8; 536]);
+}
+
+// A run with a window whose ends are not in their order: before a budget above the limit.
+fn run_turned() {
+    let mut s = slots_with(0, 0, 1024, 512, 9984, 0);
+    let mut m = memory_with(112, 1);
+    let mut j = [0u8; 536];
+    let a = machine::run(&mut s, TURNED, &mut m, 1000001, 0, &mut j, 0);
+    show(b"a window from 2 to 1, a run: number ", a.number);
+    show(b", steps ", a.steps);
+    end_line();
+    tell_slots(&s, slots_with(0, 0, 1024, 512, 9984, 0));
+    tell_memory(&m, memory_with(112, 1));
+    tell_journal(&j, [0u8; 536]);
+}
+
+// And an undo: of a record that all of memory would let be undone.
+fn undo_turned() {
+    let mut s = slots_with(0, 0, 1024, 512, 9984, 2);
+    let mut m = memory_with(112, 1);
+    let j = record_of_mode();
+    let a = machine::undo(&mut s, TURNED, &mut m, &j, 4);
+    show(b"a window from 2 to 1, an undo: number ", a.number);
+    show_count(b", mark ", a.mark as u64);
+    end_line();
+    tell_slots(&s, slots_with(0, 0, 1024, 512, 9984, 2));
+    tell_memory(&m, memory_with(112, 1));
+}
+
 // The halt held against what no paper says: with one altered, the right mode or the right byte comes out, and that one is the same.
 fn not_said() {
     let s = slots_with(0, 0, 769, 512, 9984, 2);
@@ -284,5 +353,10 @@ fn main() {
     full_dropped();
     torn_step();
     torn_run();
+    reset_window();
+    refused_reset_window();
+    step_past();
+    run_turned();
+    undo_turned();
     not_said();
 }
