@@ -5,7 +5,6 @@ use Prim.Native.Nat.{ℕ}
 use mathlib.Core.Bool.{Bool, true, false}
 use mathlib.Core.List.{List, [], _∷_, map}
 use Rattle.bits.specs.Bits.{bit}
-use Rattle.bus.specs.declared.Window.{Window}
 use Rattle.bus.specs.Bus.{View, seen-by}
 
 -- sixteen bytes  [ours]

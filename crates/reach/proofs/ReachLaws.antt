@@ -4,7 +4,7 @@
 use Prim.Native.Nat.{ℕ, zero, suc, _+_, _-_, _<_, _≤_}
 use native.Mathlib.Omega.{arith}
 use mathlib.Core.Path.{_≡_, refl, sym, ap, _∙_, subst}
-use mathlib.Core.Bool.{Bool, true, false, _&&_, _||_}
+use mathlib.Core.Bool.{Bool, true, false, _&&_}
 use mathlib.Core.List.{List, [], _∷_}
 use lib.ListN.{length, getD, take, drop}
 use lib.Seq.{length-take-le}
@@ -13,7 +13,7 @@ use borrow.Author.Tests.{leb-true, ltb-true, ltb-false, le-leb, lt-ltb}
 use Rattle.bits.specs.Bits.{pick}
 use Rattle.bits.proofs.BitsLaws.{and-left, and-right}
 use Rattle.bus.specs.declared.Window.{Window}
-use Rattle.bus.specs.Bus.{two-at, all-of, allowed, seen-by, part, byte-within, word-within, view-of, whole}
+use Rattle.bus.specs.Bus.{two-at, all-of, allowed, seen-by, byte-within, word-within, view-of, whole}
 use Rattle.bus.proofs.BusLaws.{whole-shows}
 use Rattle.reach.specs.Reach.{up-to}
 
@@ -61,19 +61,19 @@ window-test : (lo hi n u v a top s : ℕ) → Less lo n u → Less hi n v → to
 window-test lo hi n u v a top s p q e l =
     bool-of (leb u a && ltb top v) ((leb lo a && leb (a + s) hi) && ltb top n)
     (λ t.
-      let x = leb-true u a (and-left (leb u a) (ltb top v) t) in
-      let y = ltb-true top v (and-right (leb u a) (ltb top v) t) in
-      let z = p .above a x (omega (arith, y, q .all, l)) in
-      both-true (leb lo a && leb (a + s) hi) (ltb top n)
-      (both-true (leb lo a) (leb (a + s) hi) (le-leb lo a z) (le-leb (a + s) hi (omega (arith, y, q .near, e))))
-      (lt-ltb top n (omega (arith, y, q .all))))
+    let x = leb-true u a (and-left (leb u a) (ltb top v) t) in
+    let y = ltb-true top v (and-right (leb u a) (ltb top v) t) in
+    let z = p .above a x (omega (arith, y, q .all, l)) in
+    both-true (leb lo a && leb (a + s) hi) (ltb top n)
+    (both-true (leb lo a) (leb (a + s) hi) (le-leb lo a z) (le-leb (a + s) hi (omega (arith, y, q .near, e))))
+    (lt-ltb top n (omega (arith, y, q .all))))
     (λ t.
-      let g = and-left (leb lo a && leb (a + s) hi) (ltb top n) t in
-      let x = leb-true lo a (and-left (leb lo a) (leb (a + s) hi) g) in
-      let y = leb-true (a + s) hi (and-right (leb lo a) (leb (a + s) hi) g) in
-      let z = ltb-true top n (and-right (leb lo a && leb (a + s) hi) (ltb top n) t) in
-      both-true (leb u a) (ltb top v) (le-leb u a (omega (arith, p .near, x)))
-      (lt-ltb top v (q .below top z (omega (arith, y, e)))))
+    let g = and-left (leb lo a && leb (a + s) hi) (ltb top n) t in
+    let x = leb-true lo a (and-left (leb lo a) (leb (a + s) hi) g) in
+    let y = leb-true (a + s) hi (and-right (leb lo a) (leb (a + s) hi) g) in
+    let z = ltb-true top n (and-right (leb lo a && leb (a + s) hi) (ltb top n) t) in
+    both-true (leb u a) (ltb top v) (le-leb u a (omega (arith, p .near, x)))
+    (lt-ltb top v (q .below top z (omega (arith, y, e)))))
 
 -- ---- the parts
 getD-take : (m : List ℕ) (k a : ℕ) → a < k → getD (take k m) a 0 ≡ getD m a 0
@@ -108,8 +108,11 @@ module _ (win : Window) (m : List ℕ) where
   within : (a top s : ℕ) → top + 1 ≡ a + s → a ≤ top
       → (leb (length (take lo m)) a && ltb top (length (take hi m))) ≡ (allowed false win a s && ltb top (length m))
   within a top s e l =
-      cc (low-length, high-length,
-      window-test (win .lo) (win .hi) (length m) lo hi a top s (up-to-is (win .lo) (length m)) (up-to-is (win .hi) (length m)) e l)
+      cc (
+        low-length,
+        high-length,
+        window-test (win .lo) (win .hi) (length m) lo hi a top s (up-to-is (win .lo) (length m)) (up-to-is (win .hi) (length m)) e l,
+      )
 
   byte-test : (a : ℕ) → byte-within parts a ≡ (allowed false win a 1 && ltb a (length m))
   byte-test a = within a a 1 refl (omega arith)

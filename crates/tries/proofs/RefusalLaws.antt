@@ -13,7 +13,7 @@ use Rattle.bank.specs.Bank.{mode-of}
 use Rattle.calls.specs.declared.Manner.the-variants.{Keeping}
 use Rattle.calls.specs.Refusals.{zero-at-end}
 use Rattle.calls.proofs.RefusalLaws.{Verdict, verdict, first-given, below-given, equal-given, room-given}
-use Rattle.tries.specs.Tries.{TryCall, ended, try-number, try-call}
+use Rattle.tries.specs.Tries.{ended, try-number, try-call}
 use Rattle.tries.specs.Refusals.{try-table}
 
 module _ (win : Window) (s m : List ℕ) (count : ℕ) (j : List ℕ) (mark : ℕ) where

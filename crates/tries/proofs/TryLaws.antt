@@ -2,16 +2,15 @@
 -- * Trying, trying-start, trying-again; tries-spent, -refused, -halts, -excepts. try-refuses, try-supervised, try-goes: the returns of try_pattern.
 -- * Backing, backing-start, backing-again; backs-all, backs-refused.
 -- Uses: bits, bank, calls.  Source: [K7].
-use Prim.Native.Nat.{ℕ, zero, suc, _+_, _-_, _≤_, _<_}
+use Prim.Native.Nat.{ℕ, suc, _+_, _-_, _≤_, _<_}
 use native.Mathlib.Omega.{arith}
-use mathlib.Core.Path.{_≡_, refl, sym, ap, _∙_}
+use mathlib.Core.Path.{_≡_, sym, ap, _∙_}
 use mathlib.Core.Bool.{Bool, true, false, not}
 use mathlib.Core.List.{List}
 use lib.Dec.{eqb}
 use borrow.Author.Tests.{eqb-true, eqb-false, not-true, not-false}
-use Rattle.bits.specs.Bits.{pick}
 use Rattle.bus.specs.declared.Window.{Window}
-use Rattle.bank.specs.Bank.{sr-of, mode-of, supervisor}
+use Rattle.bank.specs.Bank.{sr-of, supervisor}
 use Rattle.calls.specs.declared.Manner.the-variants.{Keeping}
 use Rattle.calls.specs.declared.StepAnswer.{StepAnswer}
 use Rattle.calls.specs.declared.UndoAnswer.{UndoAnswer}
@@ -20,7 +19,7 @@ use Rattle.calls.specs.Promises.{StepPromise, UndoPromise}
 use Rattle.calls.proofs.RefusalLaws.{step-refused, undo-refused}
 use Rattle.tries.specs.declared.TryAnswer.{TryAnswer}
 use Rattle.tries.specs.declared.BackAnswer.{BackAnswer}
-use Rattle.tries.specs.Tries.{TryCall, ended, trying, try-number, try-call, BackCall, backing, back-call}
+use Rattle.tries.specs.Tries.{TryCall, ended, trying, try-number, try-call, BackCall, backing}
 use Rattle.tries.specs.Promises.{TryPromise, BackPromise}
 
 -- ---- the steps of a try

@@ -2,7 +2,6 @@
 -- and all of it taken back, the old window too. It keeps all records.
 -- Not here: what a step or an undo is (Calls.antt of the crate calls). Laws: proofs/.  Source: [K7].
 use Prim.Native.Nat.{ℕ, zero, suc, _+_, _-_}
-use mathlib.Core.Bool.{Bool}
 use mathlib.Core.List.{List}
 use lib.ListN.{length}
 use lib.Dec.{ltb, eqb}
@@ -11,7 +10,7 @@ use Rattle.bits.specs.Bits.{pick}
 use Rattle.bus.specs.declared.Window.{Window}
 use Rattle.bank.specs.Bank.{sr-of, mode-of, supervisor}
 use Rattle.calls.specs.declared.Manner.the-variants.{Keeping}
-use Rattle.calls.specs.Calls.{StepCall, UndoCall, no-room, first-tests, step-call, undo-call}
+use Rattle.calls.specs.Calls.{no-room, first-tests, step-call, undo-call}
 use Rattle.tries.specs.declared.TryAnswer.{TryAnswer}
 use Rattle.tries.specs.declared.BackAnswer.{BackAnswer}
 

@@ -1,5 +1,4 @@
 use Rattle.answers.proofs.NumberLaws.{pass, refuse, first-passes, first-refuses}
-use Rattle.calls.specs.Calls.{no-room}
 use Rattle.tries.specs.Tries.{try-number}
 use borrow.Author.Needs.{needs}
 use Rattle.tries.proofs.try_number.Statement.{statement}
