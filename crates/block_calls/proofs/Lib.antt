@@ -4,3 +4,4 @@ pub mod RefusalLaws
 pub mod GoingBack
 pub mod GoingBackDropping
 pub mod ClockLaws
+pub mod TryLaws

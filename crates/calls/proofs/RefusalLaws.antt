@@ -72,7 +72,7 @@ pub record Verdict (t : List Line) (c : ℕ) : Type 1 where
   pub exactly : (n : ℕ) → ((c ≡ n) ↔ Given t n)
   pub done : (c ≡ 0) ↔ NoneApplies t
 
-verdict : (t : List Line) (c : ℕ) → Positive t → Given t c → Verdict t c
+pub verdict : (t : List Line) (c : ℕ) → Positive t → Given t c → Verdict t c
 verdict t c r g =
     record {
       exactly = λ n. (λ e. rw e at g, λ h. given-unique t c n g h);
@@ -140,10 +140,10 @@ module _ {k : ℕ} {ls : List Line} (rest : Given ls k) where
       given-pick (not (window-fits win m)) 10 (BadWindow win m) (λ e. bad-window-when win m (not-true (window-fits win m) e))
       (λ e. no-bad-window win m (not-false (window-fits win m) e)) rest
 
-  below-given : (n a b : ℕ) → Given (record { number = n; applies = a < b } ∷ ls) (pick (ltb a b) n k)
+  pub below-given : (n a b : ℕ) → Given (record { number = n; applies = a < b } ∷ ls) (pick (ltb a b) n k)
   below-given n a b = given-pick (ltb a b) n (a < b) (ltb-true a b) (λ e h. let g = ltb-false a b e in omega arith) rest
 
-  equal-given : (n a b : ℕ) → Given (record { number = n; applies = a ≡ b } ∷ ls) (pick (eqb a b) n k)
+  pub equal-given : (n a b : ℕ) → Given (record { number = n; applies = a ≡ b } ∷ ls) (pick (eqb a b) n k)
   equal-given n a b = given-pick (eqb a b) n (a ≡ b) (eqb-true a b) (eqb-false a b) rest
 
 -- ---- tests in a row: passed, so that what is last is given, or stopped at a number, whatever is last
@@ -171,7 +171,7 @@ when-stopped f (stopped n z p) last h = p last ∙ sym (p 0)
 
 -- ---- the tests that come first: 1, 2 and 10
 module _ (win : Window) (s m : List ℕ) where
-  first-given : {k : ℕ} {ls : List Line} → Given ls k → Given (first-lines win s m ls) (first-tests win s m k)
+  pub first-given : {k : ℕ} {ls : List Line} → Given ls k → Given (first-lines win s m ls) (first-tests win s m k)
   unfolding first-tests
   first-given rest = memory-given (state-given (window-given rest win m) s) m
 
@@ -241,7 +241,7 @@ no-torn-way len j mark e t =
     let z : _≡_ {A = ℕ} 0 1 = cc in omega arith
 
 module _ {k : ℕ} {ls : List Line} (rest : Given ls k) (n : ℕ) where
-  room-given : (w : Manner) (j : List ℕ) (mark : ℕ) → Given (record { number = n; applies = NoRoom w j mark } ∷ ls) (pick (no-room w j mark) n k)
+  pub room-given : (w : Manner) (j : List ℕ) (mark : ℕ) → Given (record { number = n; applies = NoRoom w j mark } ∷ ls) (pick (no-room w j mark) n k)
   room-given Dropping j mark = below-given rest n (length j) longest-record
   room-given Keeping j mark = below-given rest n (length j - mark) longest-record
 

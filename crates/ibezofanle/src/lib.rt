@@ -1,8 +1,9 @@
-// lib.rt - the calls from C: reset, step and run in both manners, undo, with the state in a lent block of 80 bytes. No call has a `requires`.
+// lib.rt - the calls from C: reset, step and run in both manners, undo, the tryer, with the state in a lent block of 80 bytes. No `requires`.
 // Means: Calls and Promises of the crate block_calls, where the laws and the theorems stand.
-// Uses: bus, block, calls, block_calls, keeping, machine.  Declared for C in c/ibezofanle.h.  Source: [K1], [K2], [K5], [K7].
+// Uses: bus, block, calls, block_calls, keeping, machine, tries.  Declared for C in c/ibezofanle.h.  Source: [K1], [K2], [K5], [K7].
 ghost use Rattle.calls.specs.declared.Manner.the-variants.{Dropping, Keeping};
 ghost use Rattle.block_calls.specs.Promises.{IbzResetPromise, IbzStepPromise, IbzRunPromise, IbzUndoPromise};
+ghost use Rattle.block_calls.specs.Tries.{IbzTryPromise, IbzBackPromise};
 use block::BLOCK_LENGTH;
 use bus::Window;
 use calls::ResetAnswer;
@@ -10,6 +11,8 @@ use calls::RunAnswer;
 use calls::StepAnswer;
 use calls::UndoAnswer;
 use keeping::NO_CLOCKS;
+use tries::BackAnswer;
+use tries::TryAnswer;
 
 // The refusal of a block that is not 80 bytes long.
 const NO_BLOCK: u32 = 9;
@@ -180,6 +183,70 @@ pub extern "C" fn ibz_undo(
     let mut slots = block::slots_in(block);
     let win = Window { lo, hi };
     let a = machine::undo(&mut slots, win, memory, journal, mark);
+    block::put_block(block, &slots);
+    a
+}
+
+// ---- the pattern tryer
+
+#[no_mangle]
+pub extern "C" fn ibz_try(
+    block: &mut [u8],
+    lo: u32,
+    hi: u32,
+    memory: &mut [u8],
+    count: u32,
+    journal: &mut [u8],
+    mark: usize,
+) -> TryAnswer
+    ensures { λ a. ⌜ IbzTryPromise (now (block .entry)) (record { lo = lo; hi = hi }) (now (memory .entry)) count (now (journal .entry)) mark (now (block .exit)) (now (memory .exit)) (now (journal .exit)) a ⌝ }
+{
+    if block.len() != BLOCK_LENGTH {
+        return TryAnswer {
+            end: tries::REFUSED,
+            number: NO_BLOCK,
+            vector: 0,
+            steps: 0,
+            mark,
+        };
+    }
+    let mut slots = block::slots_in(block);
+    let win = Window { lo, hi };
+    let a = tries::try_pattern(&mut slots, win, memory, count, journal, mark);
+    block::put_block(block, &slots);
+    a
+}
+
+#[no_mangle]
+pub extern "C" fn ibz_take_back(
+    block: &mut [u8],
+    lo: u32,
+    hi: u32,
+    memory: &mut [u8],
+    journal: &[u8],
+    mark: usize,
+    steps: u32,
+    old_lo: u32,
+    old_hi: u32,
+) -> BackAnswer
+    ensures { λ a. ⌜ IbzBackPromise (now (block .entry)) (record { lo = lo; hi = hi }) (now (memory .entry)) (now (journal .entry)) mark steps (record { lo = «old_lo»; hi = «old_hi» }) (now (block .exit)) (now (memory .exit)) a ⌝ }
+{
+    if block.len() != BLOCK_LENGTH {
+        return BackAnswer {
+            number: NO_BLOCK,
+            undone: 0,
+            mark,
+            lo,
+            hi,
+        };
+    }
+    let mut slots = block::slots_in(block);
+    let win = Window { lo, hi };
+    let old = Window {
+        lo: old_lo,
+        hi: old_hi,
+    };
+    let a = tries::take_back(&mut slots, win, memory, journal, mark, steps, old);
     block::put_block(block, &slots);
     a
 }

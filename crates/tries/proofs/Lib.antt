@@ -1,2 +1,3 @@
 pub mod TryLaws
 pub mod PromiseLaws
+pub mod RefusalLaws
