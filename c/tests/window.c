@@ -5,7 +5,7 @@
 
 enum { MEMORY = 4096, JOURNAL = 2048, BLOCK = IBZ_BLOCK_LENGTH, SUPERVISOR = 0x2000, TRACE = 0x8000 };
 
-/* The window, an instruction in it, and the stacks. Handlers: vector v's is at 0x800 + 16 v, for v up to 63, and 64's at 0xC00. */
+/* The window, an instruction in it, and the stacks. */
 enum { LO = 0x400, HI = 0x600, CODE = 0x480, USP = 0x500, SSP = 0xF00 };
 
 static uint8_t *block, *memory, *journal, old_block[BLOCK], old_memory[MEMORY], old_journal[JOURNAL];
@@ -28,7 +28,8 @@ static int same_state(void) { return memcmp(block, old_block, BLOCK) == 0 && mem
 
 static int kept(void) { return same_state() && memcmp(journal, old_journal, JOURNAL) == 0; }
 
-static uint32_t handler(uint32_t vector) { return vector < 64 ? 0x800 + 16 * vector : 0xC00; }
+/* Vectors 2 to 64 lead outside the window too. */
+static uint32_t handler(uint32_t vector) { return 0x800 + 16 * vector; }
 
 /* Words at PC; D0 is 0x12345678, A0 as given; the bytes of the window, and the 16 on both sides, are 0x5A. */
 static void set_up(uint32_t pc, const uint16_t *words, unsigned n, uint32_t a0, unsigned sr) {
@@ -83,8 +84,8 @@ struct access {
   uint32_t a, lo, hi, vector, information, address;
 };
 
-#define MOVE_B_READ {0x1210}        /* MOVE.B (A0),D1 */
-#define MOVE_B_WRITE {0x1080}       /* MOVE.B D0,(A0) */
+#define MOVE_B_READ {0x1210}  /* MOVE.B (A0),D1 */
+#define MOVE_B_WRITE {0x1080} /* MOVE.B D0,(A0) */
 #define MOVE_W_READ {0x3210}
 #define MOVE_W_WRITE {0x3080}
 #define MOVE_L_READ {0x2210}
@@ -250,8 +251,9 @@ static void each(void) {
 static void fetches(void) {
   static const uint16_t moveq[] = {0x7201}, move[] = {0x323C, 0x0001}, move_long[] = {0x23FC, 0, 1, 0, 0x500}, jmp[] = {0x4ED0};
   static const struct { uint32_t pc, lo, hi, vector; } ops[] = {
-      {LO, LO, HI, 0}, {HI - 2, LO, HI, 0},     {LO - 2, LO, HI, 2}, {HI, LO, HI, 2},     {HI + 1, LO, HI, 3}, {LO - 1, LO, HI, 3},
-      {LO, LO + 1, HI, 2}, {HI - 2, LO, HI - 1, 2}, {CODE, CODE, CODE + 2, 0}, {CODE, CODE, CODE + 1, 2}, {CODE, CODE + 2, CODE + 2, 2}};
+      {LO, LO, HI, 0},          {HI - 2, LO, HI, 0},      {LO - 2, LO, HI, 2},          {HI, LO, HI, 2},
+      {HI + 1, LO, HI, 3},      {LO - 1, LO, HI, 3},      {LO, LO + 1, HI, 2},          {HI - 2, LO, HI - 1, 2},
+      {CODE, CODE, CODE + 2, 0}, {CODE, CODE, CODE + 1, 2}, {CODE, CODE + 2, CODE + 2, 2}};
   struct ibz_step_answer a;
   for (unsigned i = 0; i < sizeof ops / sizeof *ops; i++) {
     set_up(ops[i].pc, moveq, 1, 0, 0);
@@ -297,9 +299,18 @@ static int entered(uint32_t vector, uint32_t ssp, uint32_t sr, uint32_t pc) {
 
 static void exceptions(void) {
   static const struct { uint16_t words[2]; uint32_t vector, pc; } traps[] = {
-      {{0x4E40}, 32, CODE + 2}, {{0x4E4F}, 47, CODE + 2}, {{0x4AFC}, 4, CODE},          {{0xA000}, 10, CODE}, {{0xF000}, 11, CODE},
-      {{0x46FC, 0x2700}, 8, CODE}, {{0x4E72, 0x2700}, 8, CODE}, {{0x4E73}, 8, CODE},    {{0x4E70}, 8, CODE},  {{0x4E66}, 8, CODE},
-      {{0x80FC, 0}, 5, CODE + 4},  {{0x41BC, 0x1000}, 6, CODE + 4}};
+      {{0x4E40}, 32, CODE + 2},          /* TRAP #0 */
+      {{0x4E4F}, 47, CODE + 2},          /* TRAP #15 */
+      {{0x4AFC}, 4, CODE},               /* ILLEGAL */
+      {{0xA000}, 10, CODE},              /* lines 1010 and 1111 */
+      {{0xF000}, 11, CODE},
+      {{0x46FC, 0x2700}, 8, CODE},       /* MOVE #$2700,SR; STOP; RTE; RESET; MOVE A6,USP */
+      {{0x4E72, 0x2700}, 8, CODE},
+      {{0x4E73}, 8, CODE},
+      {{0x4E70}, 8, CODE},
+      {{0x4E66}, 8, CODE},
+      {{0x80FC, 0}, 5, CODE + 4},        /* DIVU #0,D0 */
+      {{0x41BC, 0x1000}, 6, CODE + 4}};  /* CHK #$1000,D0 */
   struct ibz_step_answer a;
   for (unsigned i = 0; i < sizeof traps / sizeof *traps; i++) { /* frame and vector are outside the window, and are taken */
     set_up(CODE, traps[i].words, 2, 0, 0);
@@ -356,8 +367,8 @@ static void exceptions(void) {
 /* The largest memory: its last word, a long that goes round to address 0, and a window that has not both. */
 static void largest(int at_end) {
   static const struct { uint16_t word; uint32_t a0, lo, hi, vector, address; } cases[] = {
-      {0x3210, 0xFFFFFE, 0, 0x1000000, 0, 0}, {0x3210, 0xFFFFFE, 0, 0xFFFFFF, 2, 0xFFFFFE}, {0x2210, 0xFFFFFE, 0, 0x1000000, 0, 0},
-      {0x2210, 0xFFFFFE, 2, 0x1000000, 2, 0}, {0x2210, 0xFFFFFE, 0, 0xFFFFFE, 2, 0xFFFFFE}, {0x1210, 0xFFFFFF, 1, 0x1000000, 0, 0}};
+      {0x3210, 0xFFFFFE, 0, 0x1000000, 0, 0}, {0x3210, 0xFFFFFE, 0, 0xFFFFFF, 2, 0xFFFFFE}, {0x1210, 0xFFFFFF, 1, 0x1000000, 0, 0},
+      {0x2210, 0xFFFFFE, 0, 0x1000000, 0, 0}, {0x2210, 0xFFFFFE, 0, 0xFFFFFE, 2, 0xFFFFFE}, {0x2210, 0xFFFFFE, 2, 0x1000000, 2, 0}};
   uint8_t *const large = guarded(IBZ_MEMORY_MOST, at_end);
   struct ibz_fault f;
   for (unsigned i = 0; i < sizeof cases / sizeof *cases; i++) {
@@ -379,10 +390,12 @@ static void largest(int at_end) {
 static void refusals(void) {
   static const uint16_t moveq[] = {0x7201};
   static const struct { uint32_t lo, hi, number; } windows[] = {
-      {0, MEMORY, 0},      {MEMORY, MEMORY, 0},         {0, 0, 0},           {LO, LO, 0},       {LO + 1, LO, 10},
-      {1, 0, 10},          {0, MEMORY + 1, 10},         {MEMORY, MEMORY + 1, 10}, {MEMORY + 1, MEMORY, 10},
-      {MEMORY + 1, MEMORY + 1, 10}, {0xFFFFFFFFu, MEMORY, 10}, {0, 0xFFFFFFFFu, 10}, {0xFFFFFFFFu, 0xFFFFFFFFu, 10}, {0, 0x80000000u, 10},
-      {0, 0x1000000, 10},  {0x10000, MEMORY, 10}};
+      {0, 0, 0},                     {LO, LO, 0},                   {0, MEMORY, 0},
+      {MEMORY, MEMORY, 0},           {1, 0, 10},                    {LO + 1, LO, 10},
+      {MEMORY + 1, MEMORY, 10},      {0, MEMORY + 1, 10},           {MEMORY, MEMORY + 1, 10},
+      {MEMORY + 1, MEMORY + 1, 10},  {0xFFFFFFFFu, MEMORY, 10},     {0, 0xFFFFFFFFu, 10},
+      {0, 0x1000000, 10},            {0x10000, MEMORY, 10},         {0, 0x80000000u, 10},
+      {0xFFFFFFFFu, 0xFFFFFFFFu, 10}, {0, 0x10000u + MEMORY, 10}}; /* all 32 bits are judged */
   for (unsigned i = 0; i < sizeof windows / sizeof *windows; i++)
     for (unsigned mode = 0; mode < 3; mode++)
       for (unsigned sr = 0; sr <= SUPERVISOR; sr += SUPERVISOR) {
