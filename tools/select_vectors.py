@@ -3,26 +3,30 @@
 
 Usage: tools/select_vectors.py FOLDER | tools/wrong_cases.py crates/vectors
 
-       tools/select_vectors.py FOLDER NAME     all cases of one file, for `vectors` by hand
+       tools/select_vectors.py FOLDER NAME     all cases of one file, for `vectors` by hand: plain .., k7/inside ..
 
 FOLDER holds the vector files, NAME.vec.gz, a case to a line (crates/vectors/README.md), and beside each k2/NAME.clk.gz,
 the clocks of its cases in the same order, a number to a line: they become the line's field clocks=N. Of the requests
 that change what a step does, k3/NAME.vec.gz and k4/NAME.vec.gz have the cases that are then other, with their clocks:
-each takes the place of the case with the same first seven fields. Chosen are, of the cases whose memory is 65,536 bytes
-or less: all of choice, halt, interrupt, oddjump and scope; of every other file three cases of each name, spread evenly
-over those that it has; and what is then still missing of three for each flag string. Where there are fewer than three,
-all. The choice depends on nothing but the files, and keeps their order.
+each takes the place of the case with the same first seven fields. k7/NAME.vec.gz has cases of its own, whole as they
+stand. Chosen are, of the cases whose memory is 65,536 bytes or less: all of choice, halt, interrupt, oddjump, scope and
+k7/interrupt; of every other file three cases of each name, spread evenly over those that it has; but of k7's, which
+have the same names four times over, three of each instruction, and what is then still missing of one for each pair of
+operand kinds; and what is then still missing of three for each flag string. Where there are fewer, all. The choice
+depends on nothing but the files, and keeps their order.
 """
 import collections
 import gzip
 import pathlib
 import sys
 
-WHOLE = {"choice", "halt", "interrupt", "oddjump", "scope"}
+WHOLE = {"choice", "halt", "interrupt", "oddjump", "scope", "k7/interrupt"}
 REPLACED_BY = ("k3", "k4")  # in the order in which they came
+ADDED_BY = ("k7",)
 GIVEN = 7  # fields that say what a case is; the others say what comes of it
 EACH = 3
 LARGEST = 65536
+SUFFIX = ".vec.gz"
 
 
 def spread(items, n):
@@ -42,10 +46,18 @@ def given(line):
     return tuple(line.split(" ", GIVEN)[:GIVEN])
 
 
-def timed(path):
+def added(name):
+    """Whether a file has a request's own cases."""
+    return name.split("/")[0] in ADDED_BY
+
+
+def timed(folder, name):
     """The cases of a file, each with its clocks, and as the last request has it that changes it."""
+    path = folder / f"{name}{SUFFIX}"
     lines = lines_of(path)
-    clocks = path.parent / "k2" / path.name.replace(".vec.gz", ".clk.gz")
+    if added(name):
+        return [f"{line}\n" for line in lines]
+    clocks = folder / "k2" / f"{name}.clk.gz"
     counts = lines_of(clocks)
     if len(lines) != len(counts):
         sys.exit(f"{path} has {len(lines)} cases, {clocks} {len(counts)}")
@@ -53,7 +65,7 @@ def timed(path):
     if len(cases) != len(lines):
         sys.exit(f"{path} has a case twice")
     for request in REPLACED_BY:
-        other = path.parent / request / path.name
+        other = folder / request / path.name
         for line in lines_of(other) if other.exists() else []:
             if given(line) not in cases:
                 sys.exit(f"{other} has a case that {path} has not: {line}")
@@ -61,28 +73,40 @@ def timed(path):
     return list(cases.values())
 
 
+def names_in(folder):
+    """The files of a folder, those of the requests last."""
+    for part in ("", *ADDED_BY):
+        for path in sorted((folder / part).glob(f"*{SUFFIX}")):
+            yield path.relative_to(folder).as_posix().removesuffix(SUFFIX)
+
+
 def main():
     if len(sys.argv) not in (2, 3):
         sys.exit(__doc__)
     folder = pathlib.Path(sys.argv[1])
     if len(sys.argv) == 3:
-        sys.stdout.writelines(timed(folder / f"{sys.argv[2]}.vec.gz"))
+        sys.stdout.writelines(timed(folder, sys.argv[2]))
         return
-    files = sorted(folder.glob("*.vec.gz"))
+    files = list(names_in(folder))
     if not files:
-        sys.exit(f"no *.vec.gz in {sys.argv[1]}")
+        sys.exit(f"no *{SUFFIX} in {sys.argv[1]}")
     cases, chosen = [], set()
-    for path in files:
-        kind = path.name.split(".")[0]
-        by_name = collections.defaultdict(list)
-        for line in timed(path):
+    for file in files:
+        by_name, by_kinds = collections.defaultdict(list), collections.defaultdict(list)
+        for line in timed(folder, file):
             name, flags, length = line.split(" ", 3)[:3]
             if int(length, 16) > LARGEST:
                 continue
+            if added(file):
+                name, kinds = name.split(":")
+                by_kinds[kinds].append(len(cases))
             by_name[name].append(len(cases))
             cases.append((flags, line))
         for places in by_name.values():
-            chosen.update(places if kind in WHOLE else spread(places, EACH))
+            chosen.update(places if file in WHOLE else spread(places, EACH))
+        for places in by_kinds.values():
+            if chosen.isdisjoint(places):
+                chosen.add(places[0])
     by_flags = collections.defaultdict(list)
     for place, (flags, _) in enumerate(cases):
         by_flags[flags].append(place)

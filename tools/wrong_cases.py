@@ -46,14 +46,18 @@ UNDO_MARK = "mark after the undo"
 NO_CASE = "no case"
 
 SLOTS = 20
-SR = 18
+A0, SSP, PC, SR = 8, 16, 17, 18
+ADDRESSES = 1 << 24
+VECTOR_2 = 8
 MARK = 1000
 LONGEST = 8192
 
-# fields of a line, counted from 0; after these, a true case has its clocks
+# fields of a line, counted from 0; after these, a true case has its clocks, and perhaps a window
 NAME, LENGTH, LEVEL, VECTOR, START, MEMORY, SLOTS_AFTER, MEMORY_AFTER, RECORD = 0, 2, 3, 4, 5, 6, 7, 8, 9
 FIELDS = 10
 CLOCKS_NAME = "clocks="
+WINDOW_NAME = "window="
+LO, HI = 0, 1
 
 
 def bytes_of(runs):
@@ -79,11 +83,17 @@ class Case:
     """A true case: slots and bytes before and after its step."""
 
     def __init__(self, line):
-        *self.fields, self.timed = line.split(" ")
-        if len(self.fields) != FIELDS or not self.timed.startswith(CLOCKS_NAME):
+        fields = line.split(" ")
+        self.fields, self.last = fields[:FIELDS], fields[FIELDS:]
+        names = [text[:text.find("=") + 1] for text in self.last]
+        if names not in ([CLOCKS_NAME], [CLOCKS_NAME, WINDOW_NAME]):
             sys.exit(f"no case with clocks: {line}")
+        self.timed = self.last[0]
         self.clocks = int(self.timed[len(CLOCKS_NAME):])
         self.length = int(self.fields[LENGTH], 16)
+        self.window = [0, self.length]
+        if len(self.last) == 2:
+            self.window = [int(end, 16) for end in self.last[1][len(WINDOW_NAME):].split(",")]
         self.start = [int(v, 16) for v in self.fields[START].split(",")]
         self.slots = list(self.start)
         for change in self.fields[SLOTS_AFTER].split(",") if self.fields[SLOTS_AFTER] != "-" else []:
@@ -95,12 +105,33 @@ class Case:
         self.wrote = min(self.changed, default=0)
 
     def but(self, name, *altered, undo=(), last=None):
-        """The line with some fields altered, with those of its undo, and at last its clocks or what is given."""
+        """The line with some fields altered, with those of its undo, and what stands last in it or what is given."""
         fields = list(self.fields)
         fields[NAME] = f"wrong:{name}"
         for k, text in altered:
             fields[k] = text
-        return " ".join([*fields, *undo, *([self.timed] if last is None else last)])
+        return " ".join([*fields, *undo, *(self.last if last is None else last)])
+
+    def through(self, name, lo, hi):
+        """The line with another window."""
+        return self.but(f"window-{name}", last=[self.timed, f"{WINDOW_NAME}{lo:x},{hi:x}"])
+
+    def number_at(self, place, n):
+        """The number that n bytes of memory spell after the step."""
+        after = self.memory | self.changed
+        return int.from_bytes(bytes(after.get(place + i, 0) for i in range(n)), "big")
+
+    def fetched(self):
+        """The address of the operation word."""
+        return self.start[PC] % ADDRESSES
+
+    def pointed(self):
+        """The address in the register that the operation word names last: what (An) means, in user state."""
+        return self.start[A0 + self.number_at(self.fetched(), 2) % 8] % ADDRESSES
+
+    def blamed(self):
+        """The address of the access that failed, out of the frame."""
+        return self.number_at(self.slots[SSP] % ADDRESSES + 2, 4)
 
     def changes(self, slots):
         return listed(f"{k}={v:x}" for k, v in enumerate(slots) if v != self.start[k])
@@ -158,6 +189,53 @@ def clocks_lines(cases):
     yield UNDO_MARK, move.but("no-clocks-undo-mark", undo=[*good[:3], "0"], last=())
 
 
+def window_lines(cases):
+    """The window: an end moved by one byte, so that an access that failed is let in, or one that did not is shut out;
+    other windows; and true windows, where other things are still compared.
+    """
+    def first(begins, where=None, end=LO, off=0):
+        found = (Case(c) for c in cases if c.startswith(begins))
+        return next(c for c in found if where is None or where(c) == c.window[end] + off)
+
+    for name, begins, where, end, off, by in (
+            ("byte-below-lo-let-in", "MOVE.B:(An)>Dn wx ", Case.blamed, LO, -1, -1),
+            ("byte-at-hi-let-in", "MOVE.B:-(An)>Dn wx ", Case.blamed, HI, 0, 1),
+            ("word-cut-by-lo-let-in", "MOVEtoCCR:(An)> wx ", Case.blamed, LO, -1, -1),
+            ("word-cut-by-hi-let-in", "CLR.W:>(An) wx ", Case.blamed, HI, -1, 1),
+            ("fetch-cut-by-lo-let-in", "SWAP:>Dn wxf ", Case.blamed, LO, -1, -1),
+            ("fetch-cut-by-hi-let-in", "CLR.W:>Dn wxf ", Case.blamed, HI, -1, 1),
+            ("byte-at-lo-shut-out", "ADDQ.B:q>(An) w0 ", Case.pointed, LO, 0, 1),
+            ("byte-below-hi-shut-out", "MOVE.B:(An)>abs.W w0 ", Case.pointed, HI, -1, -1),
+            ("word-below-hi-shut-out", "ASR.W:1>(An) w0 ", Case.pointed, HI, -2, -1),
+            ("fetch-at-lo-shut-out", "MOVE.L:Dn>Dn w0 ", Case.fetched, LO, 0, 1),
+            ("fetch-below-hi-shut-out", "MOVE.L:Dn>Dn w0 ", Case.fetched, HI, -2, -1)):
+        case = first(begins, where, end, off)
+        ends = [e + by * (k == end) for k, e in enumerate(case.window)]
+        yield STEP_SLOTS, case.through(name, *ends)
+    outside = first("MOVE.B:(An)>Dn wx ")
+    yield STEP_SLOTS, outside.through("all-of-memory", 0, outside.length)
+    yield STEP_SLOTS, outside.but("window-left-out", last=[outside.timed])
+    odd = first("ORI.W:#>abs.L wo ")
+    taken = [odd.number_at(VECTOR_2, 4) if k == PC else v for k, v in enumerate(odd.slots)]
+    assert taken != odd.slots
+    yield STEP_SLOTS, odd.but("window-before-odd", (SLOTS_AFTER, odd.changes(taken)))
+    case = first("MOVE.L:Dn>Dn w0 ")
+    lo, hi = case.window
+    yield STEP_SLOTS, case.through("empty", 0, 0)
+    yield STEP_SLOTS, case.through("empty-at-end", case.length, case.length)
+    yield STEP_NUMBER, case.through("turned", hi, lo)
+    yield STEP_NUMBER, case.through("past-memory", lo, case.length + 1)
+    yield STEP_NUMBER, case.through("far-past-memory", lo, 0xFFFFFFFF)
+    unfenced = first("MOVE.B:(An)>Dn ws ")
+    yield STEP_NUMBER, unfenced.through("past-memory-in-supervisor-state", 0, unfenced.length + 1)
+    changes = (SLOTS_AFTER, case.changes(with_bit(case.slots, 0, 0)))
+    yield STEP_SLOTS, case.but("window-slot-0", changes)
+    yield STEP_SLOTS, case.but("window-no-clocks-slot-0", changes, last=case.last[1:])
+    yield STEP_CLOCKS, case.but("window-clocks", last=[f"{CLOCKS_NAME}{case.clocks + 1}", *case.last[1:]])
+    for name, last in ("window-undo-mark", case.last), ("window-no-clocks-undo-mark", case.last[1:]):
+        yield UNDO_MARK, case.but(name, undo=["0", "-", "-", "0"], last=last)
+
+
 def undo_lines(case):
     """What is compared after the undo."""
     def undone(name, number="0", slots="-", memory="-", mark=f"{MARK:x}"):
@@ -202,10 +280,21 @@ def no_cases(case):
             ("nine-digits", f"clocks={right:09}"), ("twice", f"{case.timed} {case.timed}"),
             ("two-signs", f"clocks=={right}"), ("no-sign", "clocks"), ("no-name", f"={right}"),
             ("other-name", f"clock={right}"), ("capitals", f"CLOCKS={right}"), ("two-spaces", f" {case.timed}"),
-            ("after-other-field", f"window=0,10000 {case.timed}"),
-            ("before-other-field", f"{case.timed} window=0,10000")):
+            ("after-window", f"window=0,10000 {case.timed}"), ("after-other-field", f"other=1 {case.timed}"),
+            ("before-other-field", f"{case.timed} other=1")):
         yield case.but(f"clocks-{name}", last=[last])
-    yield case.but("other-field", last=["window=0,10000"])
+    yield case.but("other-field", last=["other=1"])
+    yield " ".join(["wrong:nine-fields-and-window", *fields[1:9], "window=0,10000"])
+    for name, last in (
+            ("lo-letter", "window=g,10000"), ("hi-letter", "window=0,1000g"), ("minus", "window=-1,10000"),
+            ("no-lo", "window=,10000"), ("no-hi", "window=0,"), ("one-end", "window=10000"),
+            ("three-ends", "window=0,10000,10000"), ("nine-digits", "window=0,000010000"),
+            ("twice", "window=0,10000 window=0,10000"), ("two-signs", "window==0,10000"), ("no-sign", "window"),
+            ("no-name", "=0,10000"), ("other-name", "windows=0,10000"), ("capitals", "WINDOW=0,10000"),
+            ("two-spaces", " window=0,10000"), ("after-other-field", "other=1 window=0,10000"),
+            ("before-other-field", "window=0,10000 other=1")):
+        yield case.but(f"window-{name}", last=[case.timed, last])
+    yield case.but("window-alone-letter", last=["window=x,10000"])
     yield case.but("undo-clocks-letter", undo=["0", "-", "-", f"{MARK:x}"], last=["clocks=x"])
 
 
@@ -215,6 +304,7 @@ def wrong_lines(cases):
     yield from step_lines(move, fault)
     yield from sign_lines(cases)
     yield from clocks_lines(cases)
+    yield from window_lines(cases)
     yield from undo_lines(move)
     for line in no_cases(move):
         yield NO_CASE, line

@@ -160,13 +160,7 @@ fn undo_once(
 }
 
 // Undoes all that the journal holds.
-fn undo_all(
-    slots: &mut [u32; SLOTS],
-    win: Window,
-    memory: &mut [u8],
-    journal: &[u8],
-    mark: usize,
-) {
+fn undo_all(slots: &mut [u32; SLOTS], win: Window, memory: &mut [u8], journal: &[u8], mark: usize) {
     let mut at = mark;
     let mut turns = u64::MAX;
     while turns > 0 && at > 0 {

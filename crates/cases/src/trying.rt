@@ -52,7 +52,7 @@ fn says_window(text: &[u8]) -> bool {
 // The spaces of a line without its window.
 fn spaces(text: &[u8]) -> usize {
     let all = marks(text, b' ');
-    if says_window(text) & (0 < all) {
+    if says_window(text) && 0 < all {
         return all - 1;
     }
     all

@@ -26,12 +26,14 @@ use Rattle.execute.specs.Dispatch as Dispatch
 use Rattle.clocks.specs.Clocks as Clocks
 use Rattle.clocks.specs.Lines as Lines
 use Rattle.step.specs.Steps as Steps
+use Rattle.examples.specs.Paper.{everything}
 use Rattle.examples.specs.ClockRows.{Row, memory-of, clock-rows}
 
-pub clock-rows-hold : map (λ (e : Row). Steps.step-clocks (e .slots) (memory-of (e .words)) (e .level) 24) clock-rows ≡ map (λ (e : Row). e .clocks) clock-rows
+pub clock-rows-hold : map (λ (e : Row). Steps.step-clocks (everything (memory-of (e .words))) (e .slots) (memory-of (e .words)) (e .level) 24) clock-rows
+    ≡ map (λ (e : Row). e .clocks) clock-rows
 unfolding Count.onesIn Bits.iter Bits.by-size Bits.sign-byte Bits.sign-word
     Flags.flags Flags.condition-by Flags.condition
-    Bus.all-of Bus.read-byte Bus.read-word Bus.read-long Bus.read-sized Bus.room Bus.next-word Bus.next-long Bus.put-word Bus.put-long Bus.put-sized
+    Bus.all-of Bus.seen-by Bus.read-byte Bus.read-word Bus.read-long Bus.read-sized Bus.room Bus.next-word Bus.next-long Bus.put-word Bus.put-long Bus.put-sized
     Operands.get Operands.put Operands.increment Operands.indirect Operands.postincrement Operands.predecrement Operands.displaced
     Operands.index-value Operands.with-index Operands.indexed Operands.absolute-word Operands.absolute-long Operands.pc-displaced Operands.pc-indexed Operands.immediate Operands.special Operands.locate Operands.load Operands.put-low Operands.source Operands.target Operands.modify
     Plans.jump Plans.finish Plans.push Plans.quick

@@ -1,3 +1,4 @@
 pub mod PaperLaws
 pub mod ClockLaws
 pub mod OddLaws
+pub mod WindowLaws

@@ -16,12 +16,14 @@ use Rattle.frames.specs.Frames as Frames
 use Rattle.exception.specs.Exceptions as Exceptions
 use Rattle.execute.specs.Dispatch as Dispatch
 use Rattle.step.specs.Steps as Steps
+use Rattle.examples.specs.Paper.{everything}
 use Rattle.examples.specs.OddRows.{OddRow, odd-rows}
 
-pub odd-rows-hold : map (λ (e : OddRow). Steps.one-step (e .slots) (e .memory) (e .level) (e .vector)) odd-rows ≡ map (λ (e : OddRow). e .left) odd-rows
+pub odd-rows-hold : map (λ (e : OddRow). Steps.one-step (everything (e .memory)) (e .slots) (e .memory) (e .level) (e .vector)) odd-rows
+    ≡ map (λ (e : OddRow). e .left) odd-rows
 unfolding Bits.iter Bits.by-size Bits.sign-byte Bits.sign-word
     Flags.flags Flags.condition-by Flags.condition
-    Bus.all-of Bus.read-byte Bus.read-word Bus.read-long Bus.read-sized Bus.room Bus.next-word Bus.next-long Bus.put-word Bus.put-long
+    Bus.all-of Bus.seen-by Bus.read-byte Bus.read-word Bus.read-long Bus.read-sized Bus.room Bus.next-word Bus.next-long Bus.put-word Bus.put-long
     Bus.put-sized
     Operands.get Operands.put Operands.increment Operands.indirect Operands.postincrement Operands.special Operands.locate Operands.load
     Operands.put-low Operands.source

@@ -27,7 +27,7 @@ use Rattle.examples.specs.Paper.{Hold, examples}
 pub examples-hold : Hold examples
 unfolding Bits.iter Bits.by-size Bits.sign-byte Bits.sign-word
     Flags.flags Flags.condition-by Flags.condition
-    Bus.all-of Bus.read-byte Bus.read-word Bus.read-long Bus.read-sized Bus.room Bus.next-word Bus.next-long Bus.put-word Bus.put-long
+    Bus.all-of Bus.seen-by Bus.read-byte Bus.read-word Bus.read-long Bus.read-sized Bus.room Bus.next-word Bus.next-long Bus.put-word Bus.put-long
     Bus.put-sized
     Operands.get Operands.put Operands.increment Operands.indirect Operands.postincrement Operands.predecrement Operands.displaced
     Operands.index-value Operands.with-index Operands.indexed Operands.absolute-word Operands.absolute-long Operands.pc-displaced

@@ -1,3 +1,4 @@
 pub mod Paper
 pub mod ClockRows
 pub mod OddRows
+pub mod WindowRows

@@ -4,13 +4,15 @@
 use Prim.Native.Nat.{ℕ, _/_, _%_}
 use mathlib.Core.Path.{_≡_}
 use mathlib.Core.List.{List, [], _∷_, _++_, map}
-use lib.ListN.{set, replicate, drop}
+use lib.ListN.{length, set, replicate, drop}
 use Rattle.flags.specs.declared.Flagged.{Flagged}
+use Rattle.bus.specs.declared.Window.{Window}
 use Rattle.numbers.specs.Number.{number-bytes}
 use Rattle.numbers.specs.Examples.{NumberRow, number-rows}
 use Rattle.record.specs.Change.{step-record}
 use Rattle.decimal.specs.Examples.{decimal-examples}
 use Rattle.multiply_divide.specs.Examples.{signed-examples}
+use Rattle.exception.specs.Exceptions.{Stepped}
 use Rattle.step.specs.Steps.{one-step}
 
 -- twenty slots: D0, A0 and SR as given, PC $200, SSP $400, all else 0  [ours]
@@ -21,6 +23,10 @@ slots d0 a0 pc sr = d0 ∷ 0 ∷ 0 ∷ 0 ∷ 0 ∷ 0 ∷ 0 ∷ 0 ∷ a0 ∷ 0 �
 abbrev pub memory : ℕ → List ℕ
 memory w = set (set (replicate 1024 0) 0x200 (w / 256)) 0x201 (w % 256)
 
+-- the window that hides nothing of a memory  [K7]
+abbrev pub everything : List ℕ → Window
+everything m = record { lo = 0; hi = length m }
+
 -- an example: a number and its bytes; a result; a byte with its flags; one step from slots over a word, with the slots after and its
 -- record; one step that takes an exception, with its event and the frame on the stack  [ours]
 pub data Example : Type 0 where
@@ -30,14 +36,17 @@ pub data Example : Type 0 where
   step : List ℕ → ℕ → List ℕ → List ℕ → Example
   taken : List ℕ → ℕ → ℕ → List ℕ → Example
 
+-- one step over a word, without a request  [ours]
+abbrev pub stepped : List ℕ → ℕ → Stepped
+stepped s w = one-step (everything (memory w)) s (memory w) 0 0
+
 -- what an example says  [ours]
 abbrev pub says : Example → Type 0
 says (number n bytes) = number-bytes n ≡ bytes
 says (result got said) = got ≡ said
 says (flagged got said) = got ≡ said
-says (step s w after bytes) =
-    (one-step s (memory w) 0 0 .s ≡ after) × (step-record s (one-step s (memory w) 0 0 .s) (memory w) (one-step s (memory w) 0 0 .m) ≡ bytes)
-says (taken s w event frame) = (one-step s (memory w) 0 0 .event ≡ event) × (drop 0x3FA (one-step s (memory w) 0 0 .m) ≡ frame)
+says (step s w after bytes) = (stepped s w .s ≡ after) × (step-record s (stepped s w .s) (memory w) (stepped s w .m) ≡ bytes)
+says (taken s w event frame) = (stepped s w .event ≡ event) × (drop 0x3FA (stepped s w .m) ≡ frame)
 
 -- all of them  [ours]
 abbrev pub Hold : List Example → Type 0

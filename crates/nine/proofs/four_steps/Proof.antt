@@ -6,10 +6,10 @@ use Rattle.nine.proofs.four_steps.Statement.{statement}
 use Rattle.nine.proofs.four_steps.Tie as tie
 
 abbrev Inv-loop : tie.InvT-loop
-Inv-loop slots₀ memory₀ journal₀ now₀ counter₀ slots memory journal now counter = (length memory ≡ length memory₀) × (length journal ≡ length journal₀)
+Inv-loop slots₀ win memory₀ journal₀ now₀ counter₀ slots memory journal now counter = (length memory ≡ length memory₀) × (length journal ≡ length journal₀)
 
 abbrev μ-loop : tie.MeasureT-loop
-μ-loop slots₀ memory₀ journal₀ now₀ counter₀ slots memory journal now counter = 4 - counter
+μ-loop slots₀ win memory₀ journal₀ now₀ counter₀ slots memory journal now counter = 4 - counter
 
 pub four-steps-spec : {M : Type 1} → statement M
 four-steps-spec =

@@ -6,10 +6,10 @@ use Rattle.nine.proofs.four_undos.Statement.{statement}
 use Rattle.nine.proofs.four_undos.Tie as tie
 
 abbrev Inv-loop : tie.InvT-loop
-Inv-loop slots₀ memory₀ journal now₀ counter₀ slots memory now counter = length memory ≡ length memory₀
+Inv-loop slots₀ win memory₀ journal now₀ counter₀ slots memory now counter = length memory ≡ length memory₀
 
 abbrev μ-loop : tie.MeasureT-loop
-μ-loop slots₀ memory₀ journal now₀ counter₀ slots memory now counter = 4 - counter
+μ-loop slots₀ win memory₀ journal now₀ counter₀ slots memory now counter = 4 - counter
 
 pub four-undos-spec : {M : Type 1} → statement M
 four-undos-spec =

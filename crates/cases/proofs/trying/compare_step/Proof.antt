@@ -19,6 +19,7 @@ compare-step-spec =
     (λ c κs. search needs)
     (λ c. (differing, (differing, differing)))
     (λ c. (differing, (differing, differing)))
+    (λ c κs. search needs)
     (λ c. search needs)
     (λ c. search needs)
     (λ c κs. search needs)
