@@ -1,15 +1,30 @@
-/* ibezofanle.h - an MC68000 whose every step can be taken back: reset, step, run and undo, for C11 and C++17.
+/* ibezofanle.h - an MC68000 whose every step can be taken back: reset, step, run and undo, and a fence to try programs in, for C11 and
+ * C++17.
  *
- * You lend four things, and keep them between calls:
+ * You lend five things, and keep them between calls:
  *
  *   block    80 bytes: the processor's state, twenty slots of four bytes, high byte first (enum ibz_slot)
  *   memory   the 68000's memory, from address 0; its length is even, from 1,024 to 16,777,216
  *   journal  bytes for the records by which steps are taken back, the oldest first; a step wants 536 of them free
  *   mark     how many bytes of the journal are in use. 0 at first; then always the mark that the last call returned
+ *   window   two numbers, lo and hi: the part of memory, from lo to below hi, that a program in user state can reach. ibz_reset tells
+ *            them, 0 and memory's length, which is all of it; no step and no undo changes them. The library does not keep them: each
+ *            call is given them, and another window is set by giving it another
  *
  * ibz_reset sets the state as the processor's reset does. ibz_step does one instruction, or takes one interrupt, and writes at the
  * mark how to take it back. ibz_run does many. ibz_undo takes the last step back: block and memory are then, byte for byte, what
  * they were before it. After any mix of these, block and memory are what the steps that were not undone would have left.
+ *
+ * The window fences user state, where SR has no bit 0x2000 (S). There a byte or a word that is read or written and does not lie wholly in
+ * it, be it an operation word, an extension word, an operand or on the stack, is a bus error (vector 2), as outside memory; a word at an odd
+ * address is an address error before that (vector 3). The address is judged in 24 bits. lo and hi may be odd, and a word that lo or hi cuts
+ * is outside; of a long each word is judged by itself, and the frame has the first that fails. Supervisor state is not fenced, nor are the
+ * frames and vectors of exceptions and interrupts, which are supervisor's from user state too.
+ *
+ * ibz_try does steps of a program that is not to be trusted, in a window, and tells how they ended; ibz_take_back takes them back. Before
+ * the first step that takes an exception or halts, a program that starts in user state changes neither T, S and the mask in SR nor SSP, and
+ * no byte outside the window. Nor do SSP and these bytes matter to it: its steps, their records and their clocks are the same whatever they
+ * hold.
  *
  * Where fewer than 536 bytes of journal are free after the mark, a step or a run goes by one of two manners:
  *
@@ -24,12 +39,13 @@
  * them back, at every step: some 250 instructions a record. An ibz_run does so once, where it first finds the journal full, and from
  * then on reads only those that are about to be dropped: where a journal is long and full, prefer runs.
  *
- * Every answer begins with `number`: 0 if the call was done, else why it was refused (enum ibz_number). A refused step, run or undo
+ * Every answer has a `number`: 0 if the call was done, else why it was refused (enum ibz_number). A refused step, run or undo
  * leaves block, memory, journal and mark as they were. A refused reset sets the halted state, 2 in slot 19 and 0 in every other; but
- * a block that is not 80 bytes long (IBZ_NO_BLOCK) is never written.
+ * a block that is not 80 bytes long (IBZ_NO_BLOCK) is never written. Of a try and of taking back, what came before the refused step or
+ * undo stays done.
  *
- * The calls take any values whatever: any bytes in block, memory and journal, any lengths, any mark. Each ends, and touches nothing
- * but what it was lent. That is proved of the library, for a caller who keeps to what no C function can check:
+ * The calls take any values whatever: any bytes in block, memory and journal, any lengths, any mark, any window. Each ends, and touches
+ * nothing but what it was lent. That is proved of the library, for a caller who keeps to what no C function can check:
  *
  *   - a pointer is good for its length: for reading, and for writing where it is not const. It may be NULL if its length is 0.
  *     It may have any alignment.
@@ -53,7 +69,7 @@
 extern "C" {
 #endif
 
-#define IBZ_VERSION 3
+#define IBZ_VERSION 4
 
 /* ---- sizes and limits */
 
@@ -63,7 +79,7 @@ extern "C" {
 #define IBZ_MEMORY_LEAST 1024u     /* bytes of memory, an even number of them */
 #define IBZ_MEMORY_MOST 16777216u
 #define IBZ_LEVEL_MOST 7u          /* an interrupt's level */
-#define IBZ_BUDGET_MOST 1000000u   /* steps of a run */
+#define IBZ_BUDGET_MOST 1000000u   /* steps of a run, or of a try */
 #define IBZ_CLOCKS_MOST 204u       /* clocks of a step; a run has at most IBZ_BUDGET_MOST times as many */
 
 /* ---- the block */
@@ -87,12 +103,13 @@ enum ibz_mode {
 
 /* ---- answers */
 
-/* `number` of every answer. Where several apply: IBZ_NO_BLOCK, else the lowest that the call can give. */
+/* `number` of every answer. Where several apply: the first of 9, 1, 2, 10, 3, 4, 5, 6, 7, 8 that the call can give. ibz_try is refused as
+ * ibz_step_keeping is, ibz_take_back as ibz_undo is. */
 enum ibz_number {
   IBZ_DONE = 0,
   IBZ_BAD_MEMORY = 1,   /* reset step run undo   memory's length is odd, below 1,024 or above 16,777,216 */
   IBZ_BAD_STATE = 2,    /*       step run undo   SR has a bit outside 0xA71F, or mode is above 2; each is judged in all its 32 bits */
-  IBZ_BAD_REQUEST = 3,  /*       step run        level is above 7 (step); budget is above 1,000,000 (run) */
+  IBZ_BAD_REQUEST = 3,  /*       step run        level is above 7 (step); budget or count is above 1,000,000 (run, ibz_try) */
   IBZ_BAD_MARK = 4,     /*       step run undo   mark is greater than the journal's length */
   IBZ_JOURNAL_FULL = 5, /*       step            the journal is shorter than 536 bytes (ibz_step); fewer than 536 bytes of it are after
                          *                       the mark (ibz_step_keeping) */
@@ -102,7 +119,8 @@ enum ibz_number {
                          *       step            fewer than 536 bytes of journal are after the mark, and below it, on the way back to
                          *                       place 0, stands no well-shaped record for this length of memory: one that is well formed
                          *                       but for the comparison with what state and memory hold (ibz_step alone) */
-  IBZ_NO_BLOCK = 9      /* reset step run undo   the block is not 80 bytes long; nothing else is looked at */
+  IBZ_NO_BLOCK = 9,     /* reset step run undo   the block is not 80 bytes long; nothing else is looked at */
+  IBZ_BAD_WINDOW = 10   /*       step run undo   lo is above hi, or hi is above memory's length. lo and hi may be equal: nothing is inside */
 };
 
 /* `reason` of a run that was done: the first of these, in this order, that held before a further step. */
@@ -114,6 +132,15 @@ enum ibz_reason {
   IBZ_REASON_JOURNAL = 4, /* the journal has no room: as IBZ_JOURNAL_FULL, in either manner */
   IBZ_REASON_RECORD = 6,  /* records would have to be dropped, and one is not well shaped: as IBZ_BAD_RECORD of ibz_step (ibz_run alone) */
   IBZ_REASON_ADDRESS = 5  /* PC is the stop address, in all 32 bits */
+};
+
+/* `end` of a try. */
+enum ibz_end {
+  IBZ_END_SPENT = 1,      /* as many steps were done as were asked for */
+  IBZ_END_SUPERVISED = 2, /* the machine was in supervisor state at the start: no step was done */
+  IBZ_END_EXCEPTION = 3,  /* the last step took an exception: `vector`. If a trace followed and halted the machine, the block's mode tells */
+  IBZ_END_HALTED = 4,     /* the last step halted the machine, by the first exception of it: IBZ_EVENT_HALT */
+  IBZ_END_REFUSED = 5     /* a step was refused: `number` */
 };
 
 /* `event` of a step that was done: IBZ_EVENT_NONE, or 1 more than the vector of the first exception that it took, or IBZ_EVENT_HALT
@@ -139,6 +166,8 @@ enum ibz_reason {
 
 struct ibz_reset_answer {
   uint32_t number; /* enum ibz_number */
+  uint32_t lo;     /* the window after it: 0 and memory's length; 0 and 0 if refused */
+  uint32_t hi;
 };
 
 struct ibz_step_answer {
@@ -165,35 +194,70 @@ struct ibz_undo_answer {
   size_t mark;     /* the next call's mark */
 };
 
+struct ibz_try_answer {
+  uint32_t end;    /* enum ibz_end: why it ended */
+  uint32_t number; /* enum ibz_number; 0 unless end is IBZ_END_REFUSED */
+  uint32_t vector; /* of the exception that the last step took, the first where it took two; 0 unless end is IBZ_END_EXCEPTION */
+  uint32_t steps;  /* how many steps were done, the one with the exception or the halt too: so many undos take the try back */
+  size_t mark;     /* the next call's mark */
+};
+
+struct ibz_back_answer {
+  uint32_t number; /* enum ibz_number: of the first undo that was refused, or 0 */
+  uint32_t undone; /* how many steps were taken back */
+  size_t mark;     /* the next call's mark */
+  uint32_t lo;     /* the window after it: the old one; the one that was given if an undo was refused */
+  uint32_t hi;
+};
+
 /* ---- the calls */
 
-/* SSP from address 0 of memory, PC from 4, SR 0x2700, every other slot 0. What the block holds before does not matter, and memory is
- * only read. A journal starts anew with it: go on with mark 0. Refused by 1, 9. */
+/* SSP from address 0 of memory, PC from 4, SR 0x2700, every other slot 0; the window is all of memory. What the block holds before does
+ * not matter, and memory is only read. A journal starts anew with it: go on with mark 0. Refused by 1, 9. */
 struct ibz_reset_answer ibz_reset(uint8_t *block, size_t block_length, const uint8_t *memory, size_t memory_length);
 
 /* One step. `level` asks for an interrupt, 1 to 7, by `vector`; it is taken if it is 7 or above the mask in SR. At level 0, or if it
  * is not taken, one instruction is done; a stopped machine stays as it is, and that is a step too. Where the journal is full, the oldest
- * records are dropped first. Refused by 1 to 6, 8, 9. */
-struct ibz_step_answer ibz_step(uint8_t *block, size_t block_length, uint8_t *memory, size_t memory_length, uint32_t level,
-                                uint8_t vector, uint8_t *journal, size_t journal_length, size_t mark);
+ * records are dropped first. Refused by 1 to 6, 8, 9, 10. */
+struct ibz_step_answer ibz_step(uint8_t *block, size_t block_length, uint32_t lo, uint32_t hi, uint8_t *memory, size_t memory_length,
+                                uint32_t level, uint8_t vector, uint8_t *journal, size_t journal_length, size_t mark);
 
-/* The same step, but every record is kept: where the journal is full it is refused by 5. Refused by 1 to 6, 9. */
-struct ibz_step_answer ibz_step_keeping(uint8_t *block, size_t block_length, uint8_t *memory, size_t memory_length, uint32_t level,
-                                        uint8_t vector, uint8_t *journal, size_t journal_length, size_t mark);
+/* The same step, but every record is kept: where the journal is full it is refused by 5. Refused by 1 to 6, 9, 10. */
+struct ibz_step_answer ibz_step_keeping(uint8_t *block, size_t block_length, uint32_t lo, uint32_t hi, uint8_t *memory,
+                                        size_t memory_length, uint32_t level, uint8_t vector, uint8_t *journal, size_t journal_length,
+                                        size_t mark);
 
 /* Steps of ibz_step with level 0, at most `budget` of them, until a reason holds (enum ibz_reason). To stop at no address, give one
- * that the program never reaches, as 0xFFFFFFFF. Refused by 1 to 4, 9. */
-struct ibz_run_answer ibz_run(uint8_t *block, size_t block_length, uint8_t *memory, size_t memory_length, uint32_t budget,
-                              uint32_t stop, uint8_t *journal, size_t journal_length, size_t mark);
+ * that the program never reaches, as 0xFFFFFFFF. Refused by 1 to 4, 9, 10. */
+struct ibz_run_answer ibz_run(uint8_t *block, size_t block_length, uint32_t lo, uint32_t hi, uint8_t *memory, size_t memory_length,
+                              uint32_t budget, uint32_t stop, uint8_t *journal, size_t journal_length, size_t mark);
 
-/* The same of ibz_step_keeping: where the journal is full the run ends, by IBZ_REASON_JOURNAL. Refused by 1 to 4, 9. */
-struct ibz_run_answer ibz_run_keeping(uint8_t *block, size_t block_length, uint8_t *memory, size_t memory_length, uint32_t budget,
-                                      uint32_t stop, uint8_t *journal, size_t journal_length, size_t mark);
+/* The same of ibz_step_keeping: where the journal is full the run ends, by IBZ_REASON_JOURNAL. Refused by 1 to 4, 9, 10. */
+struct ibz_run_answer ibz_run_keeping(uint8_t *block, size_t block_length, uint32_t lo, uint32_t hi, uint8_t *memory,
+                                      size_t memory_length, uint32_t budget, uint32_t stop, uint8_t *journal, size_t journal_length,
+                                      size_t mark);
 
-/* Takes the last step back, by the record that ends at the mark, whichever call wrote it. The journal is only read. Refused by 1, 2, 4,
- * 7, 8, 9: 7 also where steps were done but their records are dropped. */
-struct ibz_undo_answer ibz_undo(uint8_t *block, size_t block_length, uint8_t *memory, size_t memory_length,
+/* Takes the last step back, by the record that ends at the mark, whichever call wrote it, in whichever window. The journal is only read.
+ * Refused by 1, 2, 4, 7, 8, 9, 10: 7 also where steps were done but their records are dropped. */
+struct ibz_undo_answer ibz_undo(uint8_t *block, size_t block_length, uint32_t lo, uint32_t hi, uint8_t *memory, size_t memory_length,
                                 const uint8_t *journal, size_t journal_length, size_t mark);
+
+/* ---- the tryer */
+
+/* Steps of ibz_step_keeping with level 0 in the window lo, hi: at most `count` of them, up to the first that takes an exception or halts
+ * the machine, or is refused. A start in supervisor state, if nothing refuses its first step, takes none and says so. Every record is kept,
+ * so that the way back is whole. A count of 0 takes no step: it ends by IBZ_END_SPENT, or by what refuses a first step, or as supervised.
+ * A stopped machine stays as it is, and these are steps too. Refused by 1 to 6, 9, 10: 5 also after steps. */
+struct ibz_try_answer ibz_try(uint8_t *block, size_t block_length, uint32_t lo, uint32_t hi, uint8_t *memory, size_t memory_length,
+                              uint32_t count, uint8_t *journal, size_t journal_length, size_t mark);
+
+/* As many undos as `steps` says, each in the window lo, hi; then the window is the old one, which the answer has and is not judged. The
+ * first undo that is refused ends it, and the window stays lo, hi. With a try's window, steps and mark, and with the window of before it as
+ * the old one, block, memory, mark and window are, byte for byte, what they were before the try. With 0 steps nothing but the block's
+ * length is looked at. The journal is only read. Refused by 1, 2, 4, 7, 8, 9, 10. */
+struct ibz_back_answer ibz_take_back(uint8_t *block, size_t block_length, uint32_t lo, uint32_t hi, uint8_t *memory, size_t memory_length,
+                                     const uint8_t *journal, size_t journal_length, size_t mark, uint32_t steps, uint32_t old_lo,
+                                     uint32_t old_hi);
 
 /* ---- small helpers; `slot` is below IBZ_SLOTS */
 
@@ -245,13 +309,14 @@ static inline const char *ibz_number_text(uint32_t number) {
   case IBZ_DONE: return "done";
   case IBZ_BAD_MEMORY: return "the length of memory is odd, too small or too large";
   case IBZ_BAD_STATE: return "SR or mode has a value that it can not have";
-  case IBZ_BAD_REQUEST: return "the level or the budget is too high";
+  case IBZ_BAD_REQUEST: return "the level, the budget or the count is too high";
   case IBZ_BAD_MARK: return "the mark is beyond the journal";
   case IBZ_JOURNAL_FULL: return "the journal has no room for a record";
   case IBZ_IS_HALTED: return "the machine is halted";
   case IBZ_NO_RECORD: return "nothing is left to take back";
   case IBZ_BAD_RECORD: return "a record below the mark is not a good one";
   case IBZ_NO_BLOCK: return "the block is not 80 bytes long";
+  case IBZ_BAD_WINDOW: return "the window ends before it begins, or beyond memory";
   default: return "an unknown refusal";
   }
 }
@@ -267,6 +332,18 @@ static inline const char *ibz_reason_text(uint32_t reason) {
   case IBZ_REASON_RECORD: return "a record below the mark is not a good one";
   case IBZ_REASON_ADDRESS: return "PC is the stop address";
   default: return "an unknown reason";
+  }
+}
+
+/* Why a try ended, in words. */
+static inline const char *ibz_end_text(uint32_t end) {
+  switch (end) {
+  case IBZ_END_SPENT: return "all steps are done";
+  case IBZ_END_SUPERVISED: return "the machine is in supervisor state";
+  case IBZ_END_EXCEPTION: return "an exception was taken";
+  case IBZ_END_HALTED: return "the machine halted";
+  case IBZ_END_REFUSED: return "a step was refused";
+  default: return "an unknown end";
   }
 }
 

@@ -1,4 +1,4 @@
-/* box.c - a small host to start from: loads an image, steps, runs, shows the machine, and goes back.
+/* box.c - a small host to start from: loads an image, steps, runs, shows the machine, goes back, and tries programs in a window.
  *
  *   box [-d] [-m BYTES] [-j BYTES] [-a ADDRESS] IMAGE
  *
@@ -12,14 +12,16 @@
 
 static uint8_t block[IBZ_BLOCK_LENGTH], *memory, *journal;
 static size_t memory_length = 65536, journal_length = 1048576, mark;
+static uint32_t lo, hi;              /* the window */
 static int drops;                    /* -d */
 static unsigned long standing, gone; /* steps that stand, and of these the ones that can not be taken back any more */
 
-/* The clocks since the reset; and, for going back, what they were where steps or runs ended: the last of these is where the machine is.
- * A record has two bytes or more, so never more are wanted than half the journal's and two. */
+/* The clocks since the reset; and, for going back, what they were where steps or runs ended, and in which window those were done: the last
+ * of these is where the machine is. A record has two bytes or more, so never more are wanted than half the journal's and two. */
 struct place {
   unsigned long standing;
   unsigned long long clocks;
+  uint32_t lo, hi;
 };
 static unsigned long long clocks;
 static struct place *places;
@@ -31,6 +33,8 @@ static const char help[] =
     "irq LEVEL VECTOR      do a step that asks for an interrupt\n"
     "back [N]              take N steps back (1); `back all` takes back all\n"
     "forget                keep the machine as it is, and give up the way back: the journal is empty again\n"
+    "window LO HI          in user state, let the program reach memory from LO to below HI only\n"
+    "try LO HI [N]         do N steps (1000) in that window, up to the first exception; tell how it ended, and take all back\n"
     "regs                  show the registers\n"
     "mem ADDRESS [N]       show N bytes of memory (64)\n"
     "reset                 reset the machine, and give up the way back; memory stays\n"
@@ -64,7 +68,8 @@ static void show_registers(void) {
   for (unsigned i = 0; i < 7; i++) printf("A%u %08X%s", i, (unsigned)ibz_get(block, IBZ_A0 + i), i % 4 == 3 ? "\n" : "  ");
   printf("A7 %08X\n", (unsigned)ibz_get_a7(block));
   printf("PC %08X  ", (unsigned)ibz_get(block, IBZ_PC));
-  printf("USP %08X  SSP %08X\n", (unsigned)ibz_get(block, IBZ_USP), (unsigned)ibz_get(block, IBZ_SSP));
+  printf("USP %08X  SSP %08X  window %06X to %06X\n", (unsigned)ibz_get(block, IBZ_USP), (unsigned)ibz_get(block, IBZ_SSP), (unsigned)lo,
+         (unsigned)hi);
   show_status();
   printf("  %llu clocks\n%lu steps can be taken back; %zu of %zu journal bytes used\n", clocks, standing - gone, mark, journal_length);
 }
@@ -111,6 +116,8 @@ static void forget(void) {
 static void reset(void) {
   const struct ibz_reset_answer a = ibz_reset(block, sizeof block, memory, memory_length);
   if (a.number != IBZ_DONE) show_refusal(a.number);
+  lo = a.lo;
+  hi = a.hi;
   clocks = 0;
   forget();
 }
@@ -131,14 +138,16 @@ static void noted(size_t next, uint32_t steps, uint32_t more, unsigned long long
   }
   places[++last].standing = standing;
   places[last].clocks = clocks;
+  places[last].lo = lo;
+  places[last].hi = hi;
 }
 
 static int step(uint32_t level, uint8_t vector) {
   const unsigned long long before = clocks;
   const int interrupt = level == IBZ_LEVEL_MOST || level > (ibz_get(block, IBZ_SR) >> 8 & 7u);
   const struct ibz_step_answer a =
-      drops ? ibz_step(block, sizeof block, memory, memory_length, level, vector, journal, journal_length, mark)
-            : ibz_step_keeping(block, sizeof block, memory, memory_length, level, vector, journal, journal_length, mark);
+      drops ? ibz_step(block, sizeof block, lo, hi, memory, memory_length, level, vector, journal, journal_length, mark)
+            : ibz_step_keeping(block, sizeof block, lo, hi, memory, memory_length, level, vector, journal, journal_length, mark);
   if (a.number != IBZ_DONE) {
     show_refusal(a.number);
     return 0;
@@ -158,8 +167,8 @@ static void run(unsigned long n, uint32_t stop) {
   unsigned long done = 0;
   do {
     const uint32_t budget = n - done < IBZ_BUDGET_MOST ? (uint32_t)(n - done) : IBZ_BUDGET_MOST;
-    a = drops ? ibz_run(block, sizeof block, memory, memory_length, budget, stop, journal, journal_length, mark)
-              : ibz_run_keeping(block, sizeof block, memory, memory_length, budget, stop, journal, journal_length, mark);
+    a = drops ? ibz_run(block, sizeof block, lo, hi, memory, memory_length, budget, stop, journal, journal_length, mark)
+              : ibz_run_keeping(block, sizeof block, lo, hi, memory, memory_length, budget, stop, journal, journal_length, mark);
     if (a.number != IBZ_DONE) {
       show_refusal(a.number);
       return;
@@ -172,7 +181,7 @@ static void run(unsigned long n, uint32_t stop) {
 }
 
 static int undo(void) {
-  const struct ibz_undo_answer a = ibz_undo(block, sizeof block, memory, memory_length, journal, journal_length, mark);
+  const struct ibz_undo_answer a = ibz_undo(block, sizeof block, lo, hi, memory, memory_length, journal, journal_length, mark);
   mark = a.mark;
   standing -= a.number == IBZ_DONE;
   if (a.number != IBZ_DONE) show_refusal(a.number);
@@ -180,13 +189,14 @@ static int undo(void) {
 }
 
 /* An undo tells no clocks. They are those of the first place that is not before, less, where that is the end of a run, those of the steps
- * up to there: these are done again, which the journal has room for, and taken back. */
+ * up to there: these are done again in their window, which the journal has room for, and taken back. */
 static void back(unsigned long n) {
   for (; n > 0 && undo(); n--) {}
   while (last > 0 && places[last - 1].standing >= standing) last--;
   clocks = places[last].clocks;
   for (n = 0; standing < places[last].standing; n++) {
-    const struct ibz_step_answer a = ibz_step_keeping(block, sizeof block, memory, memory_length, 0, 0, journal, journal_length, mark);
+    const struct ibz_step_answer a = ibz_step_keeping(block, sizeof block, places[last].lo, places[last].hi, memory, memory_length, 0, 0,
+                                                      journal, journal_length, mark);
     mark = a.mark;
     standing++;
     clocks -= a.clocks;
@@ -197,9 +207,28 @@ static void back(unsigned long n) {
   show_place(clocks);
 }
 
+/* Steps in another window, from where the machine is; then all is what it was, this window too. */
+static void try_in(uint32_t from, uint32_t to, uint32_t count) {
+  const struct ibz_try_answer a =
+      ibz_try(block, sizeof block, from, to, memory, memory_length, count, journal, journal_length, mark);
+  printf("          %u steps: %s", (unsigned)a.steps, ibz_end_text(a.end));
+  if (a.end == IBZ_END_EXCEPTION) printf(", vector %u", (unsigned)a.vector);
+  printf("; PC %08X  ", (unsigned)ibz_get(block, IBZ_PC));
+  show_status();
+  puts("");
+  if (a.end == IBZ_END_REFUSED) show_refusal(a.number);
+  if (a.vector == 2 || a.vector == 3) show_fault();
+  const struct ibz_back_answer b =
+      ibz_take_back(block, sizeof block, from, to, memory, memory_length, journal, journal_length, a.mark, a.steps, lo, hi);
+  mark = b.mark;
+  lo = b.lo;
+  hi = b.hi;
+  show_place(clocks);
+}
+
 /* ---- what is asked */
 
-enum { WORDS = 4 };
+enum { WORDS = 5, NUMBERS = 3 };
 
 /* A number that is the whole of a word: decimal, or hex as 0x1F or $1F. */
 static int number(const char *text, unsigned long *value) {
@@ -222,23 +251,27 @@ static int split(char *line, char **words) {
 
 static int asked(char *line) {
   char *w[WORDS];
-  unsigned long a = 0, b = 0;
-  const int n = split(line, w);
+  unsigned long v[NUMBERS] = {0, 0, 0};
+  const int n = split(line, w), has_a = n > 1, has_b = n > 2;
   if (n == 0) return 1;
-  const int has_a = n > 1 && number(w[1], &a), has_b = n > 2 && number(w[2], &b);
-  const int good = n <= 3 && has_a == (n > 1) && has_b == (n > 2); /* every further word is a number */
+  int good = n <= 1 + NUMBERS; /* every further word is a number */
+  for (int i = 1; i < n && good; i++) good = number(w[i], &v[i - 1]);
+  const unsigned long a = v[0], b = v[1], most = 0xFFFFFFFFu;
   if (strcmp(w[0], "quit") == 0) return 0;
   if (strcmp(w[0], "help") == 0) printf("%s", help);
   else if (strcmp(w[0], "back") == 0 && n == 2 && strcmp(w[1], "all") == 0) back(standing - gone);
   else if (!good) puts("that is no number: `help` lists what can be asked");
   else if (strcmp(w[0], "step") == 0 && n <= 2)
     for (unsigned long k = has_a ? a : 1; k > 0 && step(0, 0); k--) {}
-  else if (strcmp(w[0], "run") == 0) run(has_a ? a : IBZ_BUDGET_MOST, has_b ? (uint32_t)b : 0xFFFFFFFFu);
-  else if (strcmp(w[0], "irq") == 0 && n == 3 && a <= 0xFFFFFFFFu && b <= 255) step((uint32_t)a, (uint8_t)b);
+  else if (strcmp(w[0], "run") == 0 && n <= 3) run(has_a ? a : IBZ_BUDGET_MOST, has_b ? (uint32_t)b : 0xFFFFFFFFu);
+  else if (strcmp(w[0], "irq") == 0 && n == 3 && a <= most && b <= 255) step((uint32_t)a, (uint8_t)b);
   else if (strcmp(w[0], "back") == 0 && n <= 2) back(has_a ? a : 1);
   else if (strcmp(w[0], "forget") == 0 && n == 1) forget();
+  else if (strcmp(w[0], "window") == 0 && n == 3 && a <= most && b <= most) lo = (uint32_t)a, hi = (uint32_t)b;
+  else if (strcmp(w[0], "try") == 0 && n >= 3 && a <= most && b <= most && v[2] <= most)
+    try_in((uint32_t)a, (uint32_t)b, n > 3 ? (uint32_t)v[2] : 1000);
   else if (strcmp(w[0], "regs") == 0 && n == 1) show_registers();
-  else if (strcmp(w[0], "mem") == 0 && n >= 2) show_memory(a, has_b ? b : 64);
+  else if (strcmp(w[0], "mem") == 0 && n >= 2 && n <= 3) show_memory(a, has_b ? b : 64);
   else if (strcmp(w[0], "reset") == 0 && n == 1) reset();
   else puts("`help` lists what can be asked");
   return 1;

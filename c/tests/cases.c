@@ -1,15 +1,17 @@
 /* cases.c - single-step cases through the C calls: one step and its undo each, compared whole.
- * A case is a line of ten fields or fourteen, and perhaps clocks after them (crates/vectors/README.md), read from standard input. A line
- * whose name begins with `wrong:` must not hold, every other must; and where two numbers are given as arguments, so many must hold and so
- * many must not. Each line that does not hold is told with what differed first, the first two hundred of them. The mark is 1,000, so that
- * what stands before it is seen to stay; memory ends where pages that can not be touched begin. */
+ * A case is a line of ten fields or fourteen, and perhaps clocks and a window after them (crates/vectors/README.md), read from standard
+ * input; without a window it is all of memory. A line whose name begins with `wrong:` must not hold, every other must; and where two
+ * numbers are given as arguments, so many must hold and so many must not. Each line that does not hold is told with what differed first,
+ * the first two hundred of them. The mark is 1,000, so that what stands before it is seen to stay; memory ends where pages that can not be
+ * touched begin. */
 #include "tests.h"
 
-enum { FIELDS = 10, FIELDS_WITH_UNDO = 14, FIELDS_MOST = 15, TOLD = 200 };
+enum { FIELDS = 10, FIELDS_WITH_UNDO = 14, FIELDS_MOST = 16, TOLD = 200 };
 enum { MARK = 1000, JOURNAL = 4096, LEAST = 1024, LARGEST = 16777216, LONGEST = 8192 };
 
 static uint8_t block[IBZ_BLOCK_LENGTH], goal[IBZ_BLOCK_LENGTH], start[IBZ_BLOCK_LENGTH], journal[JOURNAL], record[JOURNAL];
 static uint8_t *memory, *wanted; /* all 0 between cases */
+static uint32_t lo, hi;          /* the case's window */
 
 static int digit(char c) {
   return c >= '0' && c <= '9' ? c - '0' : c >= 'a' && c <= 'f' ? c - 'a' + 10 : c >= 'A' && c <= 'F' ? c - 'A' + 10 : -1;
@@ -30,6 +32,16 @@ static int clocks_in(const char *p, uint32_t *n) {
   if (strncmp(p, "clocks=", 7) != 0) return 0;
   p += 7;
   return number(&p, 10, n) && *p == 0;
+}
+
+/* Whether a field says a window, and whether it is `window=LO,HI`. */
+static int says_window(const char *p) { return strcmp(p, "window") == 0 || strncmp(p, "window=", 7) == 0; }
+
+static int window_in(const char *p) {
+  if (strncmp(p, "window=", 7) != 0) return 0;
+  p += 7;
+  if (!number(&p, 16, &lo) || *p++ != ',') return 0;
+  return whole(p, &hi);
 }
 
 /* Puts the bytes that are spelled, and tells how many; `clear` puts 0 for each. */
@@ -81,7 +93,8 @@ static int change_slots(const char *p, uint8_t *b) {
 static const char *step_differs(char **f, const uint32_t *clocks, uint8_t *m, const uint8_t *w, size_t length, size_t next) {
   uint32_t level, vector;
   if (!whole(f[3], &level) || !whole(f[4], &vector) || vector > 255) return "no case";
-  const struct ibz_step_answer a = ibz_step_keeping(block, sizeof block, m, length, level, (uint8_t)vector, journal, JOURNAL, MARK);
+  const struct ibz_step_answer a =
+      ibz_step_keeping(block, sizeof block, lo, hi, m, length, level, (uint8_t)vector, journal, JOURNAL, MARK);
   if (a.number != 0) return "the step is refused";
   if (memcmp(block, goal, sizeof goal) != 0) return "slots after the step";
   if (memcmp(m, w, length) != 0) return "memory after the step";
@@ -98,7 +111,7 @@ static const char *undo_differs(char **f, unsigned fields, uint8_t *m, uint8_t *
   if (fields == FIELDS_WITH_UNDO &&
       (!whole(f[10], &refusal) || !change_slots(f[11], start) || !put_runs(f[12], w, length, 0) || !whole(f[13], &mark)))
     return "no case";
-  const struct ibz_undo_answer u = ibz_undo(block, sizeof block, m, length, journal, JOURNAL, next);
+  const struct ibz_undo_answer u = ibz_undo(block, sizeof block, lo, hi, m, length, journal, JOURNAL, next);
   if (u.number != refusal) return "number after the undo";
   if (memcmp(block, start, sizeof start) != 0) return "slots after the undo";
   if (memcmp(m, w, length) != 0) return "memory after the undo";
@@ -128,11 +141,14 @@ static const char *tried(char *line) {
     line = strchr(line, ' ');
     if (line != NULL) *line++ = 0;
   }
+  const int fenced = fields > 1 && says_window(f[fields - 1]);
+  if (fenced && (!window_in(f[--fields]) || line != NULL)) return "no case";
   const int timed = fields == FIELDS + 1 || fields == FIELDS_WITH_UNDO + 1; /* the last field says the clocks */
   if (timed) fields--;
   if (bytes > LONGEST || line != NULL || (fields != FIELDS && fields != FIELDS_WITH_UNDO)) return "no case";
   if (timed && !clocks_in(f[fields], &clocks)) return "no case";
   if (!whole(f[2], &length) || length < LEAST || length > LARGEST || length % 2 != 0) return "no case";
+  if (!fenced) lo = 0, hi = length;
   uint8_t *m = memory + (LARGEST - length), *w = wanted + (LARGEST - length); /* their ends are at the guards */
   const char *found = compared(f, fields, timed ? &clocks : NULL, m, w, length);
   put_runs(f[6], m, length, 1), put_runs(f[8], m, length, 1), put_runs(f[6], w, length, 1), put_runs(f[8], w, length, 1);

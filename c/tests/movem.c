@@ -1,9 +1,9 @@
 /* movem.c - MOVEM held to a model of its own, written from the manual's page and from 01's rules: every block edge of a memory of 4,096
- * bytes between pages that can not be touched, blocks anywhere, and blocks that wrap in a memory of 16 MiB. After each step the answer,
- * block and memory are what the model has; it is then undone, and they are what they were.
+ * bytes between pages that can not be touched, blocks anywhere, also across the edges of a window, and blocks that wrap in a memory of
+ * 16 MiB. After each step the answer, block and memory are what the model has; it is then undone, and they are what they were.
  * Arguments: how many blocks anywhere, and a seed.
- * With -DWRONG_MOVEM=1, 2 or 3 the model is wrong, and the test must fail: -(An) is asked for upward; An's last value is stored; a word is
- * loaded without its sign. */
+ * With -DWRONG_MOVEM=1 to 4 the model is wrong, and the test must fail: -(An) is asked for upward; An's last value is stored; a word is
+ * loaded without its sign; the window's end may cut a word. */
 #include "tests.h"
 
 #ifdef WRONG_MOVEM
@@ -23,7 +23,8 @@ struct asked {
 /* What is lent; what it was, and what the model makes of it. Between steps `memory` and `model` hold the same, in all of `all` bytes. */
 static uint8_t *block, *journal, *memory, *model, *memory_all, *model_all, old[BLOCK], want[BLOCK];
 static size_t length, all;
-static unsigned long checks, ends[258];
+static uint32_t lo, hi; /* the window */
+static unsigned long checks, fenced, ends[258];
 
 /* The bytes that the model wrote, as they were. */
 static struct {
@@ -45,8 +46,14 @@ static void take_back(unsigned count) {
 
 static uint32_t word_at(uint32_t at) { return (uint32_t)model[at] << 8 | model[at + 1]; }
 
-/* The vector of the fault that a word at this address makes, or 0. */
+/* The vector of the fault that a word at this address makes, or 0: of a frame's, and of an operand's, which in user state is fenced. */
 static unsigned fault_of(uint32_t at) { return at % 2 != 0 ? 3 : at + 2 > length ? 2 : 0; }
+
+static unsigned fault_in(uint32_t at, uint32_t sr) {
+  const unsigned vector = fault_of(at), outside = (sr & S) == 0 && (at < lo || at + 2 - WRONG_MODEL(4) > hi);
+  fenced += vector == 0 && outside;
+  return vector == 0 && outside ? 2 : vector;
+}
 
 static uint32_t sign(uint32_t value, uint32_t top) { return (value & (2 * top - 1)) < top ? value & (top - 1) : value | (0 - top); }
 
@@ -94,7 +101,7 @@ static unsigned movem(const struct asked *q) {
   for (unsigned i = 0; i < n * size; i += 2) { /* every word is asked for before any is moved */
     const unsigned k = (WRONG_MODEL(1) && down ? n * size - 2 - i : i) / size, half = i % size;
     const uint32_t at = ((down ? from - (k + 1) * size : from + k * size) + half) & CUT;
-    const unsigned vector = fault_of(at), program = mode == 7 && r >= 2;
+    const unsigned vector = fault_in(at, sr), program = mode == 7 && r >= 2;
     const uint32_t frame[7] = {(load ? 16u : 0) | ((sr & S) != 0 ? 4u : 0) | (program ? 2u : 1u), at >> 16, at, q->op, sr, (pc + 2) >> 16, pc + 2};
     if (vector != 0) return enter(vector, frame, 7);
   }
@@ -117,7 +124,8 @@ static unsigned movem(const struct asked *q) {
 
 /* The first difference ends the test. */
 static void differs(const struct asked *q, const char *what, size_t at, unsigned is, unsigned wanted) {
-  printf("movem: %04X %04X %04X %04X, memory of %lu bytes; before, from D0 on:", q->op, q->list, q->more[0], q->more[1], (unsigned long)length);
+  printf("movem: %04X %04X %04X %04X, memory of %lu bytes, ", q->op, q->list, q->more[0], q->more[1], (unsigned long)length);
+  printf("window from %X to %X; before, from D0 on:", (unsigned)lo, (unsigned)hi);
   for (unsigned i = 0; i < IBZ_SLOTS; i++) printf(" %08X", (unsigned)ibz_get(old, i));
   printf("\nmovem: %s %lX is %X, not %X\n", what, (unsigned long)at, is, wanted);
   exit(1);
@@ -144,13 +152,14 @@ static void try_one(const struct asked *q) {
   memcpy(memory + pc, model + pc, 8);
   writes = 0;
   const unsigned event = movem(q);
-  const struct ibz_step_answer a = checks % 2 == 0 ? ibz_step(block, BLOCK, memory, length, 0, 0, journal, JOURNAL, MARK)
-                                                   : ibz_step_keeping(block, BLOCK, memory, length, 0, 0, journal, JOURNAL, MARK);
+  const struct ibz_step_answer a = checks % 2 == 0
+                                       ? ibz_step(block, BLOCK, lo, hi, memory, length, 0, 0, journal, JOURNAL, MARK)
+                                       : ibz_step_keeping(block, BLOCK, lo, hi, memory, length, 0, 0, journal, JOURNAL, MARK);
   if (a.number != 0 || a.event != event) differs(q, "the event, with number", a.number, a.event, event);
   if (a.moved != 0 || a.dropped != 0) differs(q, "dropped, with moved", a.moved, (unsigned)a.dropped, 0);
   same(q, want, "after the step slot", "after the step the byte at");
   take_back(0);
-  const struct ibz_undo_answer u = ibz_undo(block, BLOCK, memory, length, journal, JOURNAL, a.mark);
+  const struct ibz_undo_answer u = ibz_undo(block, BLOCK, lo, hi, memory, length, journal, JOURNAL, a.mark);
   if (u.number != 0 || u.mark != MARK) differs(q, "undo's mark, with number", u.number, (unsigned)u.mark, MARK);
   same(q, old, "after undo slot", "after undo the byte at");
   for (unsigned i = 0; i < MARK; i++)
@@ -160,7 +169,7 @@ static void try_one(const struct asked *q) {
 
 /* Both memories filled alike, or their two ends. */
 static void lend(uint8_t *lent, uint8_t *other, size_t n) {
-  memory = memory_all = lent, model = model_all = other, length = all = n;
+  memory = memory_all = lent, model = model_all = other, length = all = n, lo = 0, hi = (uint32_t)n;
   for (size_t i = 0; i < n; i++)
     if (i < SMALL || i >= n - SMALL) lent[i] = other[i] = (uint8_t)any();
 }
@@ -199,6 +208,8 @@ static void anything(uint8_t *lent, uint8_t *other, int at_end) {
   memory_all = lent, model_all = other, all = SMALL, length = n;
   memory = lent + (at_end ? SMALL - n : 0), model = other + (at_end ? SMALL - n : 0);
   set_up(pc, sr);
+  lo = 0, hi = n;
+  if (below(2) == 0) lo = below((pc & CUT) + 1), hi = (pc & CUT) + 8 + below(n - (pc & CUT) - 7); /* the instruction is inside */
   if (below(8) != 0) ibz_set(block, IBZ_SSP, (any() << 24) + 2 * below(n / 2 + 8));
   const uint32_t by = mode == 6 ? below(256) - 128 : near - pc - 4 - byte; /* the index, where there is one */
   if (mode == 6 || (mode == 7 && r == 3)) ibz_set(block, index, by ^ unused);
@@ -226,10 +237,10 @@ int main(int argc, char **argv) {
   lend(large, large + IBZ_MEMORY_MOST, IBZ_MEMORY_MOST);
   edges(0x7F000000);
   free(large);
-  if (ends[0] == 0 || ends[3] == 0 || ends[4] == 0 || ends[IBZ_EVENT_HALT] == 0 || (blocks >= 1000 && ends[10] == 0)) {
+  if (ends[0] == 0 || ends[3] == 0 || ends[4] == 0 || ends[IBZ_EVENT_HALT] == 0 || (blocks >= 1000 && (ends[10] == 0 || fenced == 0))) {
     puts("movem: one of its ends was never met");
     return 1;
   }
-  printf("movem: %lu checks\n", checks);
+  printf("movem: %lu checks, %lu of them outside the window\n", checks, fenced);
   return 0;
 }
