@@ -1,6 +1,6 @@
 -- Fence.antt - what two machines share that a user program can tell apart by nothing, and what such a program leaves as it was.
 -- Not here: what a user state may touch of memory (`seen-by` of the crate bus); rows of calls (Rows.antt).
--- Laws: proofs/OneLaws.antt, proofs/RecordLaws.antt, proofs/VectorLaws.antt.  Source: [K7].
+-- Laws: proofs/OneLaws.antt, proofs/RecordLaws.antt.  Source: [K7].
 use Prim.Native.Nat.{ℕ, _/_, _%_, _<_, _≤_}
 use mathlib.Core.Path.{_≡_}
 use mathlib.Core.Bool.{false}
