@@ -54,8 +54,7 @@
  *   - nobody else uses them during the call. The library itself keeps nothing between calls and has no variables: several threads
  *     may call it at the same time, each on a machine of its own.
  *
- * It needs no start, allocates nothing, takes some 2 KiB of stack, an ibz_run on a full journal 15 KiB, and calls nothing from outside
- * but memset.
+ * It needs no start, allocates nothing, takes some 2 KiB of stack, an ibz_run 15 KiB, and calls nothing from outside but memset.
  *
  * Later versions will add members to the end of answers, and arguments to calls: compile host and library from one version,
  * IBZ_VERSION. */
