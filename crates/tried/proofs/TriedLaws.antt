@@ -26,8 +26,7 @@ use Rattle.tries.specs.declared.TryAnswer.{TryAnswer}
 use Rattle.tries.specs.Tries.{spent, taken-exception, halt, refused, TryCall, ended, try-number, backing}
 use Rattle.fence.specs.Rows.{Fit, AlikeMachines, LeftMachine, answer-to, next, answers, after-row, AllCalm, SameRow}
 use Rattle.fence.proofs.OneLaws.{same-sr, same-mode}
-use Rattle.fence.proofs.AcceptLaws.{number-told}
-use Rattle.fence.proofs.FenceLaws.{window-stays, alike-back, same-number, same-call, alike-calls, same-vector, keeping-drops, keeping-drops-none}
+use Rattle.fence.proofs.FenceLaws.{window-stays, alike-back, same-told, same-call, alike-calls, same-vector, keeping-drops, keeping-drops-none}
 use Rattle.fence.proofs.FenceLaws.{in-window}
 use Rattle.tried.specs.Tried.{plain, plains, AllAccepted, try-on, after-try, back-on, exceptional, calm-steps, once-calm, taken-back, TryIs}
 use Rattle.tried.specs.Tried.{SameEnd}
@@ -155,11 +154,6 @@ accepted-of (q ∷ qs) x h = (h .0, accepted-of qs (next Keeping q x) (h .1))
 
 -- the first step of two machines that are alike
 module _ (x y : Machine) (h : AlikeMachines x y) where
-  same-told : answer-to Keeping plain x .number ≡ answer-to Keeping plain y .number
-  same-told =
-      number-told Keeping plain x ∙ same-number Keeping plain x y h (keeping-drops plain x) (keeping-drops plain y)
-      ∙ sym (number-told Keeping plain y)
-
   quiet-too : Fit x → Fit y → quiet x ≡ true → quiet y ≡ true
   quiet-too fx fy e =
       let calm = eqb-true (answer-to Keeping plain x .event) NoEvent e in
@@ -260,14 +254,14 @@ module _ (count : ℕ) (x y : Machine) (h : AlikeMachines x y) (fx : Fit x) (fy 
         let i = ap (λ (k : ℕ). trying-on k (c .calm) zy) e ∙ turn-spent (c .calm) zy in
         same-by (ended-at spent 0 (c .calm) zx) (ended-at spent 0 (c .calm) zy) (c .calm) (p ∙ g) (q ∙ i) refl refl (same-end refl refl) refl row
     same-ends p q (refuses k e l) =
-        let s = same-told zx zy (row .alike) in
+        let s = same-told Keeping plain zx zy (row .alike) (keeping-drops plain zx) (keeping-drops plain zy) in
         let g = ap (λ (k : ℕ). trying-on k (c .calm) zx) e ∙ turn-refused k (c .calm) zx l in
         let i = ap (λ (k : ℕ). trying-on k (c .calm) zy) e ∙ turn-refused k (c .calm) zy (ap (λ (n : ℕ). eqb n 0) (sym s) ∙ l) in
         same-by (ended-at refused (answer-to Keeping plain zx .number) (c .calm) zx)
         (ended-at refused (answer-to Keeping plain zy .number) (c .calm) zy) (c .calm)
         (p ∙ g) (q ∙ i) refl s (same-end refl refl) refl row
     same-ends p q (excepts k e l m) =
-        let s = same-told zx zy (row .alike) in
+        let s = same-told Keeping plain zx zy (row .alike) (keeping-drops plain zx) (keeping-drops plain zy) in
         let o = loud-too zx zy (row .alike) (row-fit (plains (c .calm)) x fx) (row-fit (plains (c .calm)) y fy) m in
         let g = ap (λ (k : ℕ). trying-on k (c .calm) zx) e ∙ turn-ends k (c .calm) zx l m in
         let i = ap (λ (k : ℕ). trying-on k (c .calm) zy) e ∙ turn-ends k (c .calm) zy (ap (λ (n : ℕ). eqb n 0) (sym s) ∙ l) o in
