@@ -17,6 +17,7 @@ use lib.Dec.{eqb}
 use borrow.Author.Tests.{eqb-true, eqb-false}
 use Rattle.codes.specs.Codes.{NoEvent, HaltEvent}
 use Rattle.bits.specs.Bits.{pick}
+use Rattle.bits.proofs.BitsLaws.{pick-cases}
 use Rattle.bus.specs.declared.Window.{Window}
 use Rattle.calls.specs.declared.Manner.the-variants.{Keeping}
 use Rattle.calls.specs.declared.StepAnswer.{StepAnswer}
@@ -43,38 +44,18 @@ left-by x t = record { window = x .window; slots = t .s; memory = t .m; journal 
 
 -- what the ends of a try tell
 module _ (event n : ℕ) (z : Machine) where
-  after-by : (b : Bool) → eqb event HaltEvent ≡ b
-      → ended-after event n z ≡ pick b (ended halt 0 0 n (z .slots) (z .memory) (z .journal) (z .mark))
-      (ended taken-exception 0 (event - 1) n (z .slots) (z .memory) (z .journal) (z .mark))
-  after-by b h = cc
-
   after-steps : ended-after event n z .a .steps ≡ n
-  after-steps = go (eqb event HaltEvent) refl
-    where
-      go : (b : Bool) → eqb event HaltEvent ≡ b → ended-after event n z .a .steps ≡ n
-      go true h = ap (λ (t : TryCall). t .a .steps) (after-by true h)
-      go false h = ap (λ (t : TryCall). t .a .steps) (after-by false h)
+  after-steps = pick-cases (λ (t : TryCall). t .a .steps ≡ n) (eqb event HaltEvent) refl refl
 
   after-number : ended-after event n z .a .number ≡ 0
-  after-number = go (eqb event HaltEvent) refl
-    where
-      go : (b : Bool) → eqb event HaltEvent ≡ b → ended-after event n z .a .number ≡ 0
-      go true h = ap (λ (t : TryCall). t .a .number) (after-by true h)
-      go false h = ap (λ (t : TryCall). t .a .number) (after-by false h)
+  after-number = pick-cases (λ (t : TryCall). t .a .number ≡ 0) (eqb event HaltEvent) refl refl
 
   after-calm : calm-steps (ended-after event n z .a) ≡ n - 1
-  after-calm = go (eqb event HaltEvent) refl
-    where
-      go : (b : Bool) → eqb event HaltEvent ≡ b → calm-steps (ended-after event n z .a) ≡ n - 1
-      go true h = ap (λ (t : TryCall). calm-steps (t .a)) (after-by true h)
-      go false h = ap (λ (t : TryCall). calm-steps (t .a)) (after-by false h)
+  after-calm = pick-cases (λ (t : TryCall). calm-steps (t .a) ≡ n - 1) (eqb event HaltEvent) refl refl
 
   after-left : (x : Machine) → z .window ≡ x .window → left-by x (ended-after event n z) ≡ z
-  after-left x e = go (eqb event HaltEvent) refl
-    where
-      go : (b : Bool) → eqb event HaltEvent ≡ b → left-by x (ended-after event n z) ≡ z
-      go true h = ap (left-by x) (after-by true h) ∙ ap (λ (win : Window). in-window win z) (sym e)
-      go false h = ap (left-by x) (after-by false h) ∙ ap (λ (win : Window). in-window win z) (sym e)
+  after-left x e =
+      let g = ap (λ (win : Window). in-window win z) (sym e) in pick-cases (λ (t : TryCall). left-by x t ≡ z) (eqb event HaltEvent) g g
 
 module _ (x : Machine) (c : ℕ) (t : TryCall) where
   abbrev z : Machine
@@ -190,12 +171,12 @@ module _ (z u : Machine) (h : AlikeMachines z u) (n : ℕ) where
   f = answer-to Keeping plain u .event
 
   end-told : (event : ℕ) (x : Machine) (b : Bool) → eqb event HaltEvent ≡ b → ended-after event n x .a .end ≡ pick b halt taken-exception
-  end-told event x true k = ap (λ (t : TryCall). t .a .end) (after-by event n x true k)
-  end-told event x false k = ap (λ (t : TryCall). t .a .end) (after-by event n x false k)
+  end-told event x true k = rw k
+  end-told event x false k = rw k
 
   vector-told : (event : ℕ) (x : Machine) (b : Bool) → eqb event HaltEvent ≡ b → ended-after event n x .a .vector ≡ pick b 0 (event - 1)
-  vector-told event x true k = ap (λ (t : TryCall). t .a .vector) (after-by event n x true k)
-  vector-told event x false k = ap (λ (t : TryCall). t .a .vector) (after-by event n x false k)
+  vector-told event x true k = rw k
+  vector-told event x false k = rw k
 
   same-event-end : SameEnd (first .a) (second .a)
   same-event-end = go (eqb e HaltEvent) (eqb f HaltEvent) refl refl
