@@ -257,7 +257,7 @@ module _ (w : Manner) (q : Request) (x z : Machine) where
         record {
           answer = cc (refused-answer w q x k, refused-answer w q y l, told-too, h .mark);
           written = record-none w q x k ∙ sym (record-none w q y l);
-          alike = 
+          alike =
               subst₂ AlikeMachines (sym (act-step-refused w (q .level) (q .vector) x k)) (sym (act-step-refused w (q .level) (q .vector) y l)) h;
         }
 

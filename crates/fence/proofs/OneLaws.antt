@@ -10,7 +10,7 @@ use mathlib.Core.List.{List}
 use lib.ListN.{length, getD, set}
 use lib.Seq.{getD-set-other}
 use lib.Dec.{eqb}
-use Rattle.codes.specs.Codes.{Ssp, Pc, Sr, Mode, Usp, Trace, Supervisor, Mask, Running, NoEvent, HaltEvent}
+use Rattle.codes.specs.Codes.{Ssp, Pc, Sr, Mode, Usp, Trace, Supervisor, Mask, NoEvent, HaltEvent}
 use Rattle.flags.specs.Flags.{with-ccr}
 use Rattle.bus.specs.declared.Flow.{Flow}
 use Rattle.bus.specs.declared.Window.{Window}

@@ -24,7 +24,7 @@ use Rattle.calls.specs.declared.StepAnswer.{StepAnswer}
 use Rattle.calls.specs.Calls.{first-tests}
 use Rattle.calls.specs.History.{Machine, Request}
 use Rattle.tries.specs.declared.TryAnswer.{TryAnswer}
-use Rattle.tries.specs.Tries.{spent, taken-exception, halt, refused, TryCall, ended, try-number, backing}
+use Rattle.tries.specs.Tries.{spent, taken-exception, halt, refused, TryCall, try-number, backing}
 use Rattle.fence.specs.Rows.{Fit, AlikeMachines, LeftMachine, answer-to, next, answers, after-row, AllCalm, SameRow}
 use Rattle.fence.proofs.OneLaws.{same-sr, same-mode}
 use Rattle.fence.proofs.FenceLaws.{window-stays, alike-back, same-told, same-call, alike-calls, same-vector, keeping-drops, keeping-drops-none}
