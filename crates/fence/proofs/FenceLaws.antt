@@ -10,36 +10,32 @@
 use Prim.Native.Nat.{ℕ, _+_, _-_, _<_, _≤_}
 use native.Mathlib.Omega.{arith}
 use mathlib.Core.Path.{_≡_, refl, sym, ap, _∙_, subst, subst₂}
-use mathlib.Core.Bool.{Bool, true, false, not}
+use mathlib.Core.Bool.{Bool, true, false}
 use mathlib.Core.List.{List, [], _∷_}
 use lib.ListN.{length, take}
 use lib.Seq.{slice, slice-empty, drop-at, length-take-le}
 use lib.Dec.{ltb, eqb}
-use borrow.Author.Tests.{ltb-true}
-use Rattle.codes.specs.Codes.{Halted, TopLevel, NoEvent, HaltEvent}
+use borrow.Author.Tests.{eqb-true, eqb-false}
+use Rattle.codes.specs.Codes.{NoEvent, HaltEvent}
 use Rattle.bits.specs.Bits.{pick}
-use Rattle.bits.proofs.BitsLaws.{and-left}
 use Rattle.bus.specs.declared.Window.{Window}
-use Rattle.bank.specs.Bank.{sr-of, mode-of, supervisor}
+use Rattle.bank.specs.Bank.{sr-of, supervisor}
 use Rattle.numbers.specs.Number.{written}
 use Rattle.numbers.proofs.WrittenLaws.{length-written, take-written}
 use Rattle.record.specs.Limits.{longest-record}
-use Rattle.oldest.specs.Room.{rows-of}
 use Rattle.step.specs.Steps.{one-step}
 use Rattle.calls.specs.declared.Manner.{Manner}
 use Rattle.calls.specs.declared.Manner.the-variants.{Dropping, Keeping}
 use Rattle.calls.specs.declared.StepAnswer.{StepAnswer}
-use Rattle.calls.specs.Calls.{memory-fits, state-fits, window-fits, first-tests, no-room, is-torn, torn-way, StepCall, step-tests, step-number}
-use Rattle.calls.specs.Calls.{step-taken, step-with-room}
-use Rattle.calls.specs.History.{Machine, Request, act}
+use Rattle.calls.specs.Calls.{first-tests, no-room, torn-way, StepCall, step-tests, step-number, step-taken, step-with-room}
+use Rattle.calls.specs.History.{Machine, Request, act, one-more}
+use Rattle.calls.proofs.ValidLaws.{record-room}
+use Rattle.calls.proofs.RefusalLaws.{torn-way-when, step-call-number, tests-stopped, step-inv}
+use Rattle.calls.proofs.ActLaws.{lent-after, act-step-refused, seen-at, act-step, step-number-zero, step-valid}
 use Rattle.fence.specs.Fence.{Left}
 use Rattle.fence.specs.Rows.{Fit, AlikeMachines, LeftMachine, answer-to, next, record-left, after-row, AllCalm, NoneDropped, SameRow}
 use Rattle.fence.proofs.OneLaws.{left-none, same-sr, same-mode, user-too, same-event, same-clocks, alike-next, same-step-vector}
-use Rattle.fence.proofs.AcceptLaws.{Ready, ready-words, ready-next, record-fits, accepted-facts, ready-accepted, number-of, step-of-it}
-use Rattle.fence.proofs.AcceptLaws.{called}
-use Rattle.fence.proofs.AcceptLaws.{one, record-of-it, next-is, accepted-call, refused-answer, refused-next, accepted-next, step-slots}
-use Rattle.fence.proofs.AcceptLaws.{step-memory}
-use Rattle.fence.proofs.AcceptLaws.{event-told, room-free, plain-answer, plain-call, taken-plainly}
+use Rattle.fence.proofs.AcceptLaws.{number-of, one, record-of-it, refused-answer, accepted-call, event-told, room-free, plain-told, plain-next}
 use Rattle.fence.proofs.RecordLaws.{left-next, same-record}
 
 -- ---- one call: what is kept of a machine
@@ -47,31 +43,30 @@ pub window-stays : (w : Manner) (q : Request) (x : Machine) → next w q x .wind
 unfolding act
 window-stays w q x = refl
 
-fit-ready : (x : Machine) → Ready (x .slots) (x .memory) → Fit x
-fit-ready x h = record { slots = h .slots; words = ready-words (x .slots) (x .memory) h; bytes = h .bytes }
-
 module _ (w : Manner) (q : Request) (x : Machine) (f : Fit x) where
-  fit-by : (b : Bool) → eqb (number-of w q x) 0 ≡ b → Fit (next w q x)
-  fit-by true h =
-      let r = ready-next (x .slots) (x .memory) (ready-accepted w q x f h) (x .window) (q .level) (q .vector) in
-      subst Fit (sym (accepted-next w q x h))
-      (fit-ready (called w q x (step-of-it w q x)) (subst₂ Ready (sym (step-slots w q x)) (sym (step-memory w q x)) r))
-  fit-by false h = subst Fit (sym (refused-next w q x h)) f
-
   pub fit-next : Fit (next w q x)
-  fit-next = fit-by (eqb (number-of w q x) 0) refl
+  fit-next = go (eqb (answer-to w q x .number) 0) refl
+    where
+      go : (b : Bool) → eqb (answer-to w q x .number) 0 ≡ b → Fit (next w q x)
+      go true h =
+          let z = eqb-true (answer-to w q x .number) 0 h in
+          subst Fit (sym (act-step w q x z)) (lent-after q (seen-at w x) (step-valid w (q .level) (q .vector) x f z))
+      go false h = subst Fit (sym (act-step-refused w (q .level) (q .vector) x (eqb-false (answer-to w q x .number) 0 h))) f
 
-  left-by : (b : Bool) → eqb (number-of w q x) 0 ≡ b → supervisor (sr-of (x .slots)) ≡ false → answer-to w q x .event ≡ NoEvent
+  left-by : (b : Bool) → eqb (answer-to w q x .number) 0 ≡ b → supervisor (sr-of (x .slots)) ≡ false → answer-to w q x .event ≡ NoEvent
       → LeftMachine x (next w q x)
+  unfolding one-more
   left-by true h u e =
-      let l =
-      left-next (x .window) (x .slots) (x .memory) (ready-accepted w q x f h) u (q .level) (q .vector) (sym (event-told w q x h) ∙ e) in
-      subst (LeftMachine x) (sym (accepted-next w q x h))
-      (subst₂ (Left (x .window) (x .slots) (x .memory)) (sym (step-slots w q x)) (sym (step-memory w q x)) l)
-  left-by false h u e = subst (LeftMachine x) (sym (refused-next w q x h)) (left-none (x .window) (x .slots) (x .memory))
+      let z = eqb-true (answer-to w q x .number) 0 h in
+      subst (LeftMachine x) (sym (act-step w q x z))
+      (left-next (x .window) (x .slots) (x .memory) (step-valid w (q .level) (q .vector) x f z) u (q .level) (q .vector)
+      (sym (event-told w q x z) ∙ e))
+  left-by false h u e =
+      subst (LeftMachine x) (sym (act-step-refused w (q .level) (q .vector) x (eqb-false (answer-to w q x .number) 0 h)))
+      (left-none (x .window) (x .slots) (x .memory))
 
   left-call : supervisor (sr-of (x .slots)) ≡ false → answer-to w q x .event ≡ NoEvent → LeftMachine x (next w q x)
-  left-call u e = left-by (eqb (number-of w q x) 0) refl u e
+  left-call u e = left-by (eqb (answer-to w q x .number) 0) refl u e
 
 -- ---- theorem 1
 module _ (win : Window) (s m t n o p : List ℕ) (a : Left win s m t n) where
@@ -103,37 +98,17 @@ user-calls-leave w (q ∷ qs) x f u c =
     left-then (x .window) (x .slots) (x .memory) (y .slots) (y .memory) (z .slots) (z .memory) a
     (subst (λ (win : Window). Left win (y .slots) (y .memory) (z .slots) (z .memory)) (window-stays w q x) b)
 
--- ---- refusals: the tests give their own number, or what is last
-data Last (f : ℕ → ℕ) : Type 0 where
-  passes : ((l : ℕ) → f l ≡ l) → Last f
-  stops : ((l k : ℕ) → f l ≡ f k) → Last f
-
-last-pick : (b : Bool) (n : ℕ) (f : ℕ → ℕ) → Last f → Last (λ l. pick b n (f l))
-last-pick true n f h = stops (λ l k. refl)
-last-pick false n f h = h
-
-tests-last : (w : Manner) (win : Window) (s m : List ℕ) (level : ℕ) (j : List ℕ) (mark : ℕ) → Last (step-tests w win s m level j mark)
-unfolding step-tests first-tests
-tests-last w win s m level j mark =
-    let a : Last (λ l. l) = passes (λ l. refl) in
-    let b = last-pick (eqb (mode-of s) Halted) 6 _ a in
-    let c = last-pick (no-room w j mark) 5 _ b in
-    let d = last-pick (ltb (length j) mark) 4 _ c in
-    let e = last-pick (ltb TopLevel level) 3 _ d in
-    let f = last-pick (not (window-fits win m)) 10 _ e in
-    let g = last-pick (not (state-fits s)) 2 _ f in
-    last-pick (not (memory-fits m)) 1 _ g
+-- ---- refusals
+abbrev tests : Manner → Request → Machine → ℕ → ℕ
+tests w q x l = step-tests w (x .window) (x .slots) (x .memory) (q .level) (x .journal) (x .mark) l
 
 module _ (x y : Machine) (h : AlikeMachines x y) where
   same-room : (w : Manner) → no-room w (x .journal) (x .mark) ≡ no-room w (y .journal) (y .mark)
   same-room Dropping = ap (λ (n : ℕ). ltb n longest-record) (h .journal)
   same-room Keeping = cc (h .journal, h .mark)
 
-  tests : Manner → Request → Machine → ℕ → ℕ
-  tests w q x l = step-tests w (x .window) (x .slots) (x .memory) (q .level) (x .journal) (x .mark) l
-
   same-tests : (w : Manner) (q : Request) (l : ℕ) → tests w q x l ≡ tests w q y l
-  unfolding tests step-tests first-tests
+  unfolding step-tests first-tests
   same-tests w q l =
       let sr = same-sr (x .window) (x .slots) (y .slots) (x .memory) (y .memory) (h .states) in
       let mode = same-mode (x .window) (x .slots) (y .slots) (x .memory) (y .memory) (h .states) in
@@ -161,35 +136,38 @@ alike-back x y h =
 
 -- a journal that is torn is short of room
 torn-short : (w : Manner) (len : ℕ) (j : List ℕ) (mark : ℕ) → torn-way w len j mark ≡ true → length j - mark < longest-record
-torn-short Dropping len j mark t =
-    ltb-true (length j - mark) longest-record (and-left (ltb (length j - mark) longest-record) (is-torn (rows-of len j mark)) t)
+torn-short Dropping len j mark t = torn-way-when len j mark t .0
 torn-short Keeping len j mark t = absurd (let z : _≡_ {A = ℕ} 0 1 = cc (t) in omega (arith, z))
 
 module _ (w : Manner) (q : Request) where
   abbrev torn-of : Machine → Bool
   torn-of x = torn-way w (length (x .memory)) (x .journal) (x .mark)
 
+  told : (x : Machine) → answer-to w q x .number ≡ number-of w q x
+  told x = step-call-number w (x .window) (x .slots) (x .memory) (q .level) (x .journal) (x .mark) (q .vector)
+
   number-by : (x : Machine) (b : Bool) → torn-of x ≡ b
-      → number-of w q x ≡ step-tests w (x .window) (x .slots) (x .memory) (q .level) (x .journal) (x .mark) (pick b 8 0)
+      → number-of w q x ≡ tests w q x (pick b 8 0)
   unfolding step-number
   number-by x b e = cc
 
   -- torn in one alone: then a test before it gave the number, or the other dropped records
   number-apart : (x y : Machine) → AlikeMachines x y → answer-to w q y .dropped ≡ 0 → torn-of x ≡ true → torn-of y ≡ false
       → number-of w q x ≡ number-of w q y
-  unfolding tests
-  number-apart x y h d a b = go (tests-last w (x .window) (x .slots) (x .memory) (q .level) (x .journal) (x .mark))
+  number-apart x y h d a b = go (eqb (tests w q x 0) 0) refl
     where
-      go : Last (step-tests w (x .window) (x .slots) (x .memory) (q .level) (x .journal) (x .mark)) → number-of w q x ≡ number-of w q y
-      go (passes p) =
-          let z : number-of w q y ≡ 0 = number-by y false b ∙ sym (same-tests x y h w q 0) ∙ p 0 in
-          let f = room-free w q y (ap (λ (n : ℕ). eqb n 0) z) d in
+      go : (c : Bool) → eqb (tests w q x 0) 0 ≡ c → number-of w q x ≡ number-of w q y
+      go true k =
+          let z : number-of w q y ≡ 0 = number-by y false b ∙ sym (same-tests x y h w q 0) ∙ eqb-true (tests w q x 0) 0 k in
+          let f = room-free w q y (told y ∙ z) d in
           absurd (omega (arith, f, torn-short w (length (x .memory)) (x .journal) (x .mark) a, h .journal, h .mark))
-      go (stops p) = number-by x true a ∙ p 8 0 ∙ same-tests x y h w q 0 ∙ sym (number-by y false b)
+      go false k =
+          number-by x true a
+          ∙ tests-stopped w (x .window) (x .slots) (x .memory) (q .level) (x .journal) (x .mark) 8 (eqb-false (tests w q x 0) 0 k)
+          ∙ same-tests x y h w q 0 ∙ sym (number-by y false b)
 
   pub same-number : (x y : Machine) → AlikeMachines x y → answer-to w q x .dropped ≡ 0 → answer-to w q y .dropped ≡ 0
       → number-of w q x ≡ number-of w q y
-  unfolding tests
   same-number x y h d e = go (torn-of x) (torn-of y) refl refl
     where
       go : (b c : Bool) → torn-of x ≡ b → torn-of y ≡ c → number-of w q x ≡ number-of w q y
@@ -198,29 +176,32 @@ module _ (w : Manner) (q : Request) where
       go true false a b = number-apart x y h e a b
       go false true a b = sym (number-apart y x (alike-back x y h) d b a)
 
+  -- and so is what the answers tell
+  pub same-told : (x y : Machine) → AlikeMachines x y → answer-to w q x .dropped ≡ 0 → answer-to w q y .dropped ≡ 0
+      → answer-to w q x .number ≡ answer-to w q y .number
+  same-told x y h d e = told x ∙ same-number x y h d e ∙ sym (told y)
+
 -- ---- one call on two machines that are alike
 -- what a step that drops nothing leaves of the journal
-module _ (w : Manner) (q : Request) (x : Machine) (f : Fit x) (h : eqb (number-of w q x) 0 ≡ true) (e : answer-to w q x .dropped ≡ 0) where
-  pub record-room : x .mark + length (record-of-it w q x) ≤ length (x .journal)
-  record-room =
-      let r = record-fits (x .slots) (x .memory) (ready-accepted w q x f h) (x .window) (q .level) (q .vector) in
-      omega (arith, r, room-free w q x h e, accepted-facts w q x h .inside)
+module _ (w : Manner) (q : Request) (x : Machine) (f : Fit x) (h : answer-to w q x .number ≡ 0) (e : answer-to w q x .dropped ≡ 0) where
+  inside : x .mark ≤ length (x .journal)
+  inside = step-inv w (x .window) (x .slots) (x .memory) (q .level) (x .journal) (x .mark) (step-number-zero w (q .level) (q .vector) x h) .3
 
-  pub plain-next : next w q x ≡ called w q x (plain-call w q x h e)
-  plain-next = next-is w q x ∙ ap (called w q x) (taken-plainly w q x h e)
-
-  pub plain-told : answer-to w q x ≡ plain-answer w q x h e
-  plain-told = ap (λ (c : StepCall). c .a) (taken-plainly w q x h e)
+  roomy : x .mark + length (record-of-it w q x) ≤ length (x .journal)
+  roomy =
+      let r = record-room (x .window) (x .slots) (x .memory) (q .level) (q .vector) (step-valid w (q .level) (q .vector) x f h) in
+      omega (arith, r, room-free w q x h e, inside)
 
   record-is : record-left w q x ≡ record-of-it w q x
   record-is =
       let b = record-of-it w q x in
-      ap (λ (z : Machine). slice (x .mark) (z .mark) (z .journal)) plain-next
-      ∙ ap (lib.ListN.drop (x .mark)) (take-written (x .journal) (x .mark) b record-room)
-      ∙ drop-at (take (x .mark) (x .journal)) b (x .mark) (length-take-le (x .mark) (x .journal) (accepted-facts w q x h .inside))
+      ap (λ (z : Machine). slice (x .mark) (z .mark) (z .journal)) (plain-next w q x h e)
+      ∙ ap (lib.ListN.drop (x .mark)) (take-written (x .journal) (x .mark) b roomy)
+      ∙ drop-at (take (x .mark) (x .journal)) b (x .mark) (length-take-le (x .mark) (x .journal) inside)
 
-record-none : (w : Manner) (q : Request) (x : Machine) → eqb (number-of w q x) 0 ≡ false → record-left w q x ≡ []
-record-none w q x h = ap (λ (z : Machine). slice (x .mark) (z .mark) (z .journal)) (refused-next w q x h) ∙ slice-empty (x .mark) (x .journal)
+record-none : (w : Manner) (q : Request) (x : Machine) → (answer-to w q x .number ≡ 0 → ⊥) → record-left w q x ≡ []
+record-none w q x h =
+    ap (λ (z : Machine). slice (x .mark) (z .mark) (z .journal)) (act-step-refused w (q .level) (q .vector) x h) ∙ slice-empty (x .mark) (x .journal)
 
 pub record SameCall (w : Manner) (q : Request) (x y : Machine) : Type 0 where
   pub answer : answer-to w q x ≡ answer-to w q y
@@ -238,12 +219,13 @@ module _ (w : Manner) (q : Request) (x z : Machine) where
 
   module _ (h : AlikeMachines x y) (fx : Fit x) (fy : Fit y) (e : answer-to w q x .event ≡ NoEvent) (dx : answer-to w q x .dropped ≡ 0)
       (dy : answer-to w q y .dropped ≡ 0) where
-    both-number : (b : Bool) → eqb (number-of w q x) 0 ≡ b → eqb (number-of w q y) 0 ≡ b
-    both-number b k = ap (λ (n : ℕ). eqb n 0) (sym (same-number w q x y h dx dy)) ∙ k
+    told-too : answer-to w q x .number ≡ answer-to w q y .number
+    told-too = same-told w q x y h dx dy
 
-    same-by : (b : Bool) → eqb (number-of w q x) 0 ≡ b → SameCall w q x y
-    same-by true k =
-        let l = both-number true k in
+    same-by : (b : Bool) → eqb (answer-to w q x .number) 0 ≡ b → SameCall w q x y
+    same-by true g =
+        let k = eqb-true (answer-to w q x .number) 0 g in
+        let l = sym told-too ∙ k in
         let win = x .window in
         let s = x .slots in
         let t = y .slots in
@@ -253,28 +235,30 @@ module _ (w : Manner) (q : Request) (x z : Machine) where
         let quiet = sym (event-told w q x k) ∙ e in
         let quiet-too = same-event win s t m n a (q .level) (q .vector) quiet in
         let clocks = same-clocks win s t m n a (q .level) (q .vector) quiet in
-        let r = same-record win s t m n (ready-accepted w q x fx k) (ready-accepted w q y fy l) a (q .level) (q .vector) quiet in
+        let r = same-record win s t m n (step-valid w (q .level) (q .vector) x fx k) (step-valid w (q .level) (q .vector) y fy l) a (q .level) (q .vector) quiet in
         record {
-          answer = cc (plain-told w q x fx k dx, plain-told w q y fy l dy, quiet, quiet-too, clocks, r, h .mark);
+          answer = cc (plain-told w q x k dx, plain-told w q y l dy, quiet, quiet-too, clocks, r, h .mark);
           written = record-is w q x fx k dx ∙ r ∙ sym (record-is w q y fy l dy);
           alike =
-              subst₂ AlikeMachines (sym (plain-next w q x fx k dx)) (sym (plain-next w q y fy l dy))
+              subst₂ AlikeMachines (sym (plain-next w q x k dx)) (sym (plain-next w q y l dy))
               (record {
                 window = refl;
                 states = alike-next win s t m n a (q .level) (q .vector) quiet;
                 journal =
-                    length-written (x .journal) (x .mark) (record-of-it w q x) (record-room w q x fx k dx)
+                    length-written (x .journal) (x .mark) (record-of-it w q x) (roomy w q x fx k dx)
                     ∙ h .journal
-                    ∙ sym (length-written (y .journal) (y .mark) (record-of-it w q y) (record-room w q y fy l dy));
+                    ∙ sym (length-written (y .journal) (y .mark) (record-of-it w q y) (roomy w q y fy l dy));
                 mark = cc (r, h .mark);
               });
         }
-    same-by false k =
-        let l = both-number false k in
+    same-by false g =
+        let k = eqb-false (answer-to w q x .number) 0 g in
+        let l : answer-to w q y .number ≡ 0 → ⊥ = λ z. k (told-too ∙ z) in
         record {
-          answer = cc (refused-answer w q x k, refused-answer w q y l, same-number w q x y h dx dy, h .mark);
+          answer = cc (refused-answer w q x k, refused-answer w q y l, told-too, h .mark);
           written = record-none w q x k ∙ sym (record-none w q y l);
-          alike = subst₂ AlikeMachines (sym (refused-next w q x k)) (sym (refused-next w q y l)) h;
+          alike =
+              subst₂ AlikeMachines (sym (act-step-refused w (q .level) (q .vector) x k)) (sym (act-step-refused w (q .level) (q .vector) y l)) h;
         }
 
 pub same-call : (w : Manner) (q : Request) (x y : Machine) → AlikeMachines x y → Fit x → Fit y → answer-to w q x .event ≡ NoEvent
@@ -282,7 +266,7 @@ pub same-call : (w : Manner) (q : Request) (x y : Machine) → AlikeMachines x y
 same-call w q x y h fx fy e dx dy =
     let g : in-window (x .window) y ≡ y = ap (λ (win : Window). in-window win y) (h .window) in
     subst (λ (z : Machine). AlikeMachines x z → Fit z → answer-to w q z .dropped ≡ 0 → SameCall w q x z) g
-    (λ a f d. same-by w q x y a fx f e dx d (eqb (number-of w q x) 0) refl) h fy dy
+    (λ a f d. same-by w q x y a fx f e dx d (eqb (answer-to w q x .number) 0) refl) h fy dy
 
 -- ---- theorem 2
 pub alike-calls : (w : Manner) (qs : List Request) (x y : Machine) → AlikeMachines x y → Fit x → Fit y → AllCalm w qs x
@@ -301,31 +285,33 @@ alike-calls w (q ∷ qs) x y h fx fy c dx dy =
 -- the vector of the step that is not calm
 pub same-vector : (w : Manner) (q : Request) (x y : Machine) → AlikeMachines x y → answer-to w q x .dropped ≡ 0 → answer-to w q y .dropped ≡ 0
     → (answer-to w q x .event ≡ HaltEvent → ⊥) → (answer-to w q y .event ≡ HaltEvent → ⊥) → answer-to w q x .event ≡ answer-to w q y .event
-same-vector w q x y h dx dy = go (eqb (number-of w q x) 0) refl
+same-vector w q x y h dx dy = go (eqb (answer-to w q x .number) 0) refl
   where
-    go : (b : Bool) → eqb (number-of w q x) 0 ≡ b → (answer-to w q x .event ≡ HaltEvent → ⊥) → (answer-to w q y .event ≡ HaltEvent → ⊥)
+    go : (b : Bool) → eqb (answer-to w q x .number) 0 ≡ b → (answer-to w q x .event ≡ HaltEvent → ⊥) → (answer-to w q y .event ≡ HaltEvent → ⊥)
         → answer-to w q x .event ≡ answer-to w q y .event
-    go true k p r =
-        let l = ap (λ (n : ℕ). eqb n 0) (sym (same-number w q x y h dx dy)) ∙ k in
+    go true c p r =
+        let k = eqb-true (answer-to w q x .number) 0 c in
+        let l = sym (same-told w q x y h dx dy) ∙ k in
         let g : one w q y .event ≡ one-step (x .window) (y .slots) (y .memory) (q .level) (q .vector) .event =
         ap (λ (win : Window). one-step win (y .slots) (y .memory) (q .level) (q .vector) .event) (sym (h .window)) in
         event-told w q x k
         ∙ same-step-vector (x .window) (x .slots) (y .slots) (x .memory) (y .memory) (h .states) (q .level) (q .vector)
         (λ e. p (event-told w q x k ∙ e)) (λ e. r (event-told w q y l ∙ g ∙ e))
         ∙ sym g ∙ sym (event-told w q y l)
-    go false k p r =
-        let l = ap (λ (n : ℕ). eqb n 0) (sym (same-number w q x y h dx dy)) ∙ k in
+    go false c p r =
+        let k = eqb-false (answer-to w q x .number) 0 c in
+        let l : answer-to w q y .number ≡ 0 → ⊥ = λ z. k (same-told w q x y h dx dy ∙ z) in
         ap (λ (a : StepAnswer). a .event) (refused-answer w q x k) ∙ sym (ap (λ (a : StepAnswer). a .event) (refused-answer w q y l))
 
 -- ---- the manner that keeps all records
 module _ (q : Request) (x : Machine) where
-  keeping-by : (b : Bool) → eqb (number-of Keeping q x) 0 ≡ b → answer-to Keeping q x .dropped ≡ 0
-  unfolding step-with-room step-taken
-  keeping-by true h = ap (λ (c : StepCall). c .a .dropped) (accepted-call Keeping q x h)
-  keeping-by false h = ap (λ (a : StepAnswer). a .dropped) (refused-answer Keeping q x h)
-
   pub keeping-drops : answer-to Keeping q x .dropped ≡ 0
-  keeping-drops = keeping-by (eqb (number-of Keeping q x) 0) refl
+  unfolding step-with-room step-taken
+  keeping-drops = go (eqb (answer-to Keeping q x .number) 0) refl
+    where
+      go : (b : Bool) → eqb (answer-to Keeping q x .number) 0 ≡ b → answer-to Keeping q x .dropped ≡ 0
+      go true h = ap (λ (c : StepCall). c .a .dropped) (accepted-call Keeping q x (eqb-true (answer-to Keeping q x .number) 0 h))
+      go false h = ap (λ (a : StepAnswer). a .dropped) (refused-answer Keeping q x (eqb-false (answer-to Keeping q x .number) 0 h))
 
 pub keeping-drops-none : (qs : List Request) (x : Machine) → NoneDropped Keeping qs x
 keeping-drops-none [] x = tt

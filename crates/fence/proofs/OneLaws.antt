@@ -10,7 +10,7 @@ use mathlib.Core.List.{List}
 use lib.ListN.{length, getD, set}
 use lib.Seq.{getD-set-other}
 use lib.Dec.{eqb}
-use Rattle.codes.specs.Codes.{Ssp, Pc, Sr, Mode, Usp, Trace, Supervisor, Mask, Running, NoEvent, HaltEvent}
+use Rattle.codes.specs.Codes.{Ssp, Pc, Sr, Mode, Usp, Trace, Supervisor, Mask, NoEvent, HaltEvent}
 use Rattle.flags.specs.Flags.{with-ccr}
 use Rattle.bus.specs.declared.Flow.{Flow}
 use Rattle.bus.specs.declared.Window.{Window}
@@ -211,14 +211,8 @@ module _ (win : Window) (s t m n : List ℕ) (h : Alike win s t m n) where
     alike-by : Quiet win s m level → Quiet win t n level → AlikeAfter (one-step win s m level vector) (one-step win t n level vector)
     alike-by (stands a b) (stands c d) =
         subst₂ AlikeAfter (sym (step-stands win s m level vector a b)) (sym (step-stands win t n level vector c d)) h
-    alike-by (stands a b) (works c d e f) = absurd (apart b d)
-      where
-        apart : eqb (mode-of s) Running ≡ false → eqb (mode-of t) Running ≡ true → ⊥
-        apart b d = let z : _≡_ {A = ℕ} 0 1 = cc (same-mode) in omega (arith, z)
-    alike-by (works a b c d) (stands e f) = absurd (apart b f)
-      where
-        apart : eqb (mode-of s) Running ≡ true → eqb (mode-of t) Running ≡ false → ⊥
-        apart b d = let z : _≡_ {A = ℕ} 0 1 = cc (same-mode) in omega (arith, z)
+    alike-by (stands a b) (works c d e f) = absurd (let z : _≡_ {A = ℕ} 0 1 = cc (same-mode, b, d) in omega (arith, z))
+    alike-by (works a b c d) (stands e f) = absurd (let z : _≡_ {A = ℕ} 0 1 = cc (same-mode, b, f) in omega (arith, z))
     alike-by (works a b c d) (works e f g i) =
         subst₂ AlikeAfter (sym (works-is win s m level vector a b c d)) (sym (works-is win t n level vector e f g i))
         (alike-worked (tried win s m) (tried win t n) same-tried)

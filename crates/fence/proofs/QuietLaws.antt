@@ -30,10 +30,6 @@ none-picked : (b : Bool) (x y : ℕ) → pick b (event-of x) y ≡ NoEvent → (
 none-picked true x y e = absurd (omega (arith, e))
 none-picked false x y e = (refl, e)
 
-none-traced : (trace : Bool) → pick trace (event-of TraceVector) NoEvent ≡ NoEvent → trace ≡ false
-none-traced true e = absurd (omega (arith, e))
-none-traced false e = refl
-
 pub record Calm (p : Plan) (trace : Bool) : Type 0 where
   pub untraced : trace ≡ false
   pub untrapped : (eqb (p .write) NoWrite && ltb NoVector (trap-of p)) ≡ false
@@ -41,7 +37,7 @@ pub record Calm (p : Plan) (trace : Bool) : Type 0 where
 calm-of : (p : Plan) (trace : Bool) → plan-event p trace ≡ NoEvent → Calm p trace
 calm-of p trace e =
     let x = none-picked (eqb (p .write) NoWrite && ltb NoVector (trap-of p)) (trap-of p % 256) (pick trace (event-of TraceVector) NoEvent) e in
-    record { untraced = none-traced trace (x .1); untrapped = x .0 }
+    record { untraced = none-picked trace TraceVector NoEvent (x .1) .0; untrapped = x .0 }
 
 -- ---- what is then left
 both-of : (s m : List ℕ) (vec : ℕ) (a b : Stepped) → a ≡ take-trap s m vec → b ≡ take-trap (a .s) (a .m) (traced vec false (a .event))

@@ -1,7 +1,7 @@
 -- RecordLaws.antt - two machines that are alike write the same record: a place that is not the same in both is changed in neither.
 -- Matched, same-diffs; left-next: theorem 1 of one step from a valid state; same-record: the law.
 -- Uses: bits, bus, record, bank, step.  Source: [K7], [01 The journal].
-use Prim.Native.Nat.{ℕ, suc, _<_, _≤_}
+use Prim.Native.Nat.{ℕ, suc, _^_, _<_, _≤_}
 use native.Mathlib.Omega.{arith}
 use mathlib.Core.Path.{_≡_, refl, sym, _∙_, subst}
 use mathlib.Core.Bool.{Bool, true, false}
@@ -11,14 +11,15 @@ use lib.Dec.{ltb, leb, eqb}
 use borrow.Author.Tests.{leb-true, ltb-true, eqb-true, eqb-false, leb-false, ltb-false}
 use Rattle.codes.specs.Codes.{Ssp, NoEvent}
 use Rattle.bus.specs.declared.Window.{Window}
-use Rattle.bank.specs.Bank.{sr-of, supervisor}
+use Rattle.bank.specs.Bank.{ssp-of, sr-of, supervisor}
 use Rattle.record.specs.Change.{changed, diffs, step-record}
 use Rattle.record.proofs.ChangeLaws.{changed-same}
 use Rattle.exception.specs.Exceptions.{Stepped}
 use Rattle.step.specs.Steps.{one-step}
+use Rattle.step.proofs.PlacesLaws.{each-at}
+use Rattle.calls.proofs.ValidLaws.{Valid, lent-when-valid, kept-by}
 use Rattle.fence.specs.Fence.{Alike, Left}
 use Rattle.fence.proofs.OneLaws.{left-after, same-event, alike-next, user-too, slot}
-use Rattle.fence.proofs.AcceptLaws.{Ready, ready-ssp, kept-by}
 
 -- at one place: the two agree before and after, or neither changes
 data Matched (a b c d : ℕ) : Type 0 where
@@ -58,11 +59,14 @@ ssp-or-not P k p q = go (eqb k Ssp) refl
     go false e = q (eqb-false k Ssp e)
 
 -- theorem 1 of one step from a valid state
-pub left-next : (win : Window) (s m : List ℕ) → Ready s m → supervisor (sr-of s) ≡ false → (level vector : ℕ)
-    → one-step win s m level vector .event ≡ NoEvent → Left win s m (one-step win s m level vector .s) (one-step win s m level vector .m)
-left-next win s m h u level vector e = left-after win s m level vector u (ready-ssp s m h) (kept-by s m h win level vector .memory) e
+valid-ssp : (s m : List ℕ) → Valid s m → ssp-of s < 2 ^ 32
+valid-ssp s m v = each-at (λ k v. v < 2 ^ 32) 0 s Ssp (lent-when-valid s m v .words) (omega (arith, v .slots))
 
-module _ (win : Window) (s t m n : List ℕ) (hs : Ready s m) (ht : Ready t n) (h : Alike win s t m n) (level vector : ℕ)
+pub left-next : (win : Window) (s m : List ℕ) → Valid s m → supervisor (sr-of s) ≡ false → (level vector : ℕ)
+    → one-step win s m level vector .event ≡ NoEvent → Left win s m (one-step win s m level vector .s) (one-step win s m level vector .m)
+left-next win s m h u level vector e = left-after win s m level vector u (valid-ssp s m h) (kept-by win s m level vector h .memory) e
+
+module _ (win : Window) (s t m n : List ℕ) (hs : Valid s m) (ht : Valid t n) (h : Alike win s t m n) (level vector : ℕ)
     (e : one-step win s m level vector .event ≡ NoEvent) where
   abbrev a : Stepped
   a = one-step win s m level vector
@@ -92,8 +96,8 @@ module _ (win : Window) (s t m n : List ℕ) (hs : Ready s m) (ht : Ready t n) (
 
   pub same-record : step-record s (a .s) m (a .m) ≡ step-record t (b .s) n (b .m)
   same-record =
-      let la = kept-by s m hs win level vector in
-      let lb = kept-by t n ht win level vector in
+      let la = kept-by win s m level vector hs in
+      let lb = kept-by win t n level vector ht in
       let ms = same-diffs 0 m (a .m) n (b .m) (sym (la .memory)) (h .memory .long) (h .memory .long ∙ sym (lb .memory)) byte-matched in
       let both-slots : length s ≡ length t = hs .slots ∙ sym (ht .slots) in
       let ss = same-diffs 0 s (a .s) t (b .s) (sym (la .slots)) both-slots (both-slots ∙ sym (lb .slots)) slot-matched in

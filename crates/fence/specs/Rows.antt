@@ -1,23 +1,21 @@
 -- Rows.antt - rows of step calls, each given what the last one returned: their answers, their records, and that none takes an exception.
 -- Not here: what a step call is (Calls.antt and History.antt of the crate calls).
 -- Laws: proofs/FenceLaws.antt.  Source: [K7], [K5].
-use Prim.Native.Nat.{ℕ, _^_, _<_}
+use Prim.Native.Nat.{ℕ}
 use mathlib.Core.Path.{_≡_}
 use mathlib.Core.List.{List, [], _∷_}
 use lib.ListN.{length}
 use lib.Seq.{slice}
 use Rattle.codes.specs.Codes.{NoEvent}
-use Rattle.record.specs.Limits.{slot-limit, Each, ValidBytes}
 use Rattle.calls.specs.declared.Manner.{Manner}
 use Rattle.calls.specs.declared.StepAnswer.{StepAnswer}
 use Rattle.calls.specs.History.{Machine, Request, step-of, stepping, act}
+use Rattle.calls.proofs.ValidLaws.{Lent}
 use Rattle.fence.specs.Fence.{Alike, Left}
 
 -- what every machine that is lent is by its types: twenty slots of 32 bits, and bytes  [01 State] [01 Memory]
-pub record Fit (x : Machine) : Type 0 where
-  pub slots : length (x .slots) ≡ slot-limit
-  pub words : Each (λ k v. v < 2 ^ 32) 0 (x .slots)
-  pub bytes : ValidBytes (x .memory)
+abbrev pub Fit : Machine → Type 0
+Fit x = Lent (x .slots) (x .memory)
 
 -- two machines that agree on all slots but SSP, lo, hi, window bytes, memory length, journal length and mark, in user state  [K7]
 pub record AlikeMachines (x y : Machine) : Type 0 where

@@ -17,17 +17,17 @@ use lib.Dec.{eqb}
 use borrow.Author.Tests.{eqb-true, eqb-false}
 use Rattle.codes.specs.Codes.{NoEvent, HaltEvent}
 use Rattle.bits.specs.Bits.{pick}
+use Rattle.bits.proofs.BitsLaws.{pick-cases}
 use Rattle.bus.specs.declared.Window.{Window}
 use Rattle.calls.specs.declared.Manner.the-variants.{Keeping}
 use Rattle.calls.specs.declared.StepAnswer.{StepAnswer}
 use Rattle.calls.specs.Calls.{first-tests}
 use Rattle.calls.specs.History.{Machine, Request}
 use Rattle.tries.specs.declared.TryAnswer.{TryAnswer}
-use Rattle.tries.specs.Tries.{spent, taken-exception, halt, refused, TryCall, ended, try-number, backing}
+use Rattle.tries.specs.Tries.{spent, taken-exception, halt, refused, TryCall, try-number, backing}
 use Rattle.fence.specs.Rows.{Fit, AlikeMachines, LeftMachine, answer-to, next, answers, after-row, AllCalm, SameRow}
 use Rattle.fence.proofs.OneLaws.{same-sr, same-mode}
-use Rattle.fence.proofs.AcceptLaws.{number-told}
-use Rattle.fence.proofs.FenceLaws.{window-stays, alike-back, same-number, same-call, alike-calls, same-vector, keeping-drops, keeping-drops-none}
+use Rattle.fence.proofs.FenceLaws.{window-stays, alike-back, same-told, same-call, alike-calls, same-vector, keeping-drops, keeping-drops-none}
 use Rattle.fence.proofs.FenceLaws.{in-window}
 use Rattle.tried.specs.Tried.{plain, plains, AllAccepted, try-on, after-try, back-on, exceptional, calm-steps, once-calm, taken-back, TryIs}
 use Rattle.tried.specs.Tried.{SameEnd}
@@ -44,38 +44,18 @@ left-by x t = record { window = x .window; slots = t .s; memory = t .m; journal 
 
 -- what the ends of a try tell
 module _ (event n : ℕ) (z : Machine) where
-  after-by : (b : Bool) → eqb event HaltEvent ≡ b
-      → ended-after event n z ≡ pick b (ended halt 0 0 n (z .slots) (z .memory) (z .journal) (z .mark))
-      (ended taken-exception 0 (event - 1) n (z .slots) (z .memory) (z .journal) (z .mark))
-  after-by b h = cc
-
   after-steps : ended-after event n z .a .steps ≡ n
-  after-steps = go (eqb event HaltEvent) refl
-    where
-      go : (b : Bool) → eqb event HaltEvent ≡ b → ended-after event n z .a .steps ≡ n
-      go true h = ap (λ (t : TryCall). t .a .steps) (after-by true h)
-      go false h = ap (λ (t : TryCall). t .a .steps) (after-by false h)
+  after-steps = pick-cases (λ (t : TryCall). t .a .steps ≡ n) (eqb event HaltEvent) refl refl
 
   after-number : ended-after event n z .a .number ≡ 0
-  after-number = go (eqb event HaltEvent) refl
-    where
-      go : (b : Bool) → eqb event HaltEvent ≡ b → ended-after event n z .a .number ≡ 0
-      go true h = ap (λ (t : TryCall). t .a .number) (after-by true h)
-      go false h = ap (λ (t : TryCall). t .a .number) (after-by false h)
+  after-number = pick-cases (λ (t : TryCall). t .a .number ≡ 0) (eqb event HaltEvent) refl refl
 
   after-calm : calm-steps (ended-after event n z .a) ≡ n - 1
-  after-calm = go (eqb event HaltEvent) refl
-    where
-      go : (b : Bool) → eqb event HaltEvent ≡ b → calm-steps (ended-after event n z .a) ≡ n - 1
-      go true h = ap (λ (t : TryCall). calm-steps (t .a)) (after-by true h)
-      go false h = ap (λ (t : TryCall). calm-steps (t .a)) (after-by false h)
+  after-calm = pick-cases (λ (t : TryCall). calm-steps (t .a) ≡ n - 1) (eqb event HaltEvent) refl refl
 
   after-left : (x : Machine) → z .window ≡ x .window → left-by x (ended-after event n z) ≡ z
-  after-left x e = go (eqb event HaltEvent) refl
-    where
-      go : (b : Bool) → eqb event HaltEvent ≡ b → left-by x (ended-after event n z) ≡ z
-      go true h = ap (left-by x) (after-by true h) ∙ ap (λ (win : Window). in-window win z) (sym e)
-      go false h = ap (left-by x) (after-by false h) ∙ ap (λ (win : Window). in-window win z) (sym e)
+  after-left x e =
+      let g = ap (λ (win : Window). in-window win z) (sym e) in pick-cases (λ (t : TryCall). left-by x t ≡ z) (eqb event HaltEvent) g g
 
 module _ (x : Machine) (c : ℕ) (t : TryCall) where
   abbrev z : Machine
@@ -155,11 +135,6 @@ accepted-of (q ∷ qs) x h = (h .0, accepted-of qs (next Keeping q x) (h .1))
 
 -- the first step of two machines that are alike
 module _ (x y : Machine) (h : AlikeMachines x y) where
-  same-told : answer-to Keeping plain x .number ≡ answer-to Keeping plain y .number
-  same-told =
-      number-told Keeping plain x ∙ same-number Keeping plain x y h (keeping-drops plain x) (keeping-drops plain y)
-      ∙ sym (number-told Keeping plain y)
-
   quiet-too : Fit x → Fit y → quiet x ≡ true → quiet y ≡ true
   quiet-too fx fy e =
       let calm = eqb-true (answer-to Keeping plain x .event) NoEvent e in
@@ -196,12 +171,12 @@ module _ (z u : Machine) (h : AlikeMachines z u) (n : ℕ) where
   f = answer-to Keeping plain u .event
 
   end-told : (event : ℕ) (x : Machine) (b : Bool) → eqb event HaltEvent ≡ b → ended-after event n x .a .end ≡ pick b halt taken-exception
-  end-told event x true k = ap (λ (t : TryCall). t .a .end) (after-by event n x true k)
-  end-told event x false k = ap (λ (t : TryCall). t .a .end) (after-by event n x false k)
+  end-told event x true k = rw k
+  end-told event x false k = rw k
 
   vector-told : (event : ℕ) (x : Machine) (b : Bool) → eqb event HaltEvent ≡ b → ended-after event n x .a .vector ≡ pick b 0 (event - 1)
-  vector-told event x true k = ap (λ (t : TryCall). t .a .vector) (after-by event n x true k)
-  vector-told event x false k = ap (λ (t : TryCall). t .a .vector) (after-by event n x false k)
+  vector-told event x true k = rw k
+  vector-told event x false k = rw k
 
   same-event-end : SameEnd (first .a) (second .a)
   same-event-end = go (eqb e HaltEvent) (eqb f HaltEvent) refl refl
@@ -260,14 +235,14 @@ module _ (count : ℕ) (x y : Machine) (h : AlikeMachines x y) (fx : Fit x) (fy 
         let i = ap (λ (k : ℕ). trying-on k (c .calm) zy) e ∙ turn-spent (c .calm) zy in
         same-by (ended-at spent 0 (c .calm) zx) (ended-at spent 0 (c .calm) zy) (c .calm) (p ∙ g) (q ∙ i) refl refl (same-end refl refl) refl row
     same-ends p q (refuses k e l) =
-        let s = same-told zx zy (row .alike) in
+        let s = same-told Keeping plain zx zy (row .alike) (keeping-drops plain zx) (keeping-drops plain zy) in
         let g = ap (λ (k : ℕ). trying-on k (c .calm) zx) e ∙ turn-refused k (c .calm) zx l in
         let i = ap (λ (k : ℕ). trying-on k (c .calm) zy) e ∙ turn-refused k (c .calm) zy (ap (λ (n : ℕ). eqb n 0) (sym s) ∙ l) in
         same-by (ended-at refused (answer-to Keeping plain zx .number) (c .calm) zx)
         (ended-at refused (answer-to Keeping plain zy .number) (c .calm) zy) (c .calm)
         (p ∙ g) (q ∙ i) refl s (same-end refl refl) refl row
     same-ends p q (excepts k e l m) =
-        let s = same-told zx zy (row .alike) in
+        let s = same-told Keeping plain zx zy (row .alike) (keeping-drops plain zx) (keeping-drops plain zy) in
         let o = loud-too zx zy (row .alike) (row-fit (plains (c .calm)) x fx) (row-fit (plains (c .calm)) y fy) m in
         let g = ap (λ (k : ℕ). trying-on k (c .calm) zx) e ∙ turn-ends k (c .calm) zx l m in
         let i = ap (λ (k : ℕ). trying-on k (c .calm) zy) e ∙ turn-ends k (c .calm) zy (ap (λ (n : ℕ). eqb n 0) (sym s) ∙ l) o in
