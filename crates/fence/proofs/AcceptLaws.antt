@@ -135,7 +135,8 @@ module _ (w : Manner) (q : Request) (x : Machine) (h : answer-to w q x .number �
   unfolding step-with-room step-taken
   plain-told =
       ap (λ (c : StepCall). c .a) (accepted-call w q x h)
-      ∙ ap (λ (r : RoomCall). in-room (r .a) (step-taken (x .window) (x .slots) (x .memory) (q .level) (q .vector) (r .j) (r .a .mark)) .a) (plain .is)
+      ∙ ap (λ (r : RoomCall). in-room (r .a) (step-taken (x .window) (x .slots) (x .memory) (q .level) (q .vector) (r .j) (r .a .mark)) .a)
+      (plain .is)
 
   abbrev pub plain-machine : Machine
   plain-machine =

@@ -235,7 +235,9 @@ module _ (w : Manner) (q : Request) (x z : Machine) where
         let quiet = sym (event-told w q x k) ∙ e in
         let quiet-too = same-event win s t m n a (q .level) (q .vector) quiet in
         let clocks = same-clocks win s t m n a (q .level) (q .vector) quiet in
-        let r = same-record win s t m n (step-valid w (q .level) (q .vector) x fx k) (step-valid w (q .level) (q .vector) y fy l) a (q .level) (q .vector) quiet in
+        let vx = step-valid w (q .level) (q .vector) x fx k in
+        let vy = step-valid w (q .level) (q .vector) y fy l in
+        let r = same-record win s t m n vx vy a (q .level) (q .vector) quiet in
         record {
           answer = cc (plain-told w q x k dx, plain-told w q y l dy, quiet, quiet-too, clocks, r, h .mark);
           written = record-is w q x fx k dx ∙ r ∙ sym (record-is w q y fy l dy);
