@@ -4,7 +4,7 @@
 #
 # COUNTER=qemu counts by the plugin executed.c for qemu-user, on any machine; COUNTER=valgrind by callgrind, on x86-64,
 # slower, and within one in a thousand of the other. Unless it is said: the first of the two that is there. Nothing is
-# installed: what is missing is said.
+# installed: what is missing is said. BENCH=FILE counts that program in the place of bench as it is built here.
 die() { printf '%s: %s\n' "$(basename "$0")" "$*" >&2; exit 2; }
 
 # Ends with words if one of the commands is missing.
