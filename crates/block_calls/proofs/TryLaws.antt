@@ -1,5 +1,6 @@
 -- TryLaws.antt - the tryer from C: the laws that its functions cite, and that its promises leave no choice.
 -- * ibz-try-nine, ibz-try-held, ibz-back-nine, ibz-back-held: refusal 9, and a call of the tryer whose slots were read and written back.
+-- * ibz-try-at-nine, ibz-back-at-nine: a block that is not 80 bytes long, and all stays.
 -- * ibz-try-unique, ibz-back-unique: any two answers that a promise allows, with all that it leaves in what it was lent, are equal.
 -- Source: [K1], [K7], [01 How much each promise says].
 use Prim.Native.Nat.{ℕ}
@@ -21,6 +22,12 @@ module _ (b : List ℕ) (win : Window) (m : List ℕ) (count : ℕ) (j : List �
   unfolding ibz-try
   ibz-try-nine h = let y = ne-eqb (length b) block-length h in record { block = rw y; memory = rw y; journal = rw y; answer = rw y }
 
+  -- at 9 nothing is altered, and the try says that it is refused
+  pub ibz-try-at-nine : (length b ≡ block-length → ⊥)
+      → ibz-try b win m count j mark ≡ record { b = b; m = m; j = j; a = record { end = 5; number = 9; vector = 0; steps = 0; mark = mark } }
+  unfolding ibz-try
+  ibz-try-at-nine h = rw (ne-eqb (length b) block-length h)
+
   pub ibz-try-held : length b ≡ block-length → (s s₁ m₁ j₁ : List ℕ) (a : TryAnswer) → s ≡ slots-in b
       → TryPromise win s m count j mark s₁ m₁ j₁ a → (b₁ : List ℕ) → b₁ ≡ block-of s₁ → IbzTryPromise b win m count j mark b₁ m₁ j₁ a
   unfolding ibz-try
@@ -39,6 +46,12 @@ module _ (b : List ℕ) (win : Window) (m j : List ℕ) (mark steps : ℕ) (old 
   pub ibz-back-nine : (length b ≡ block-length → ⊥) → IbzBackPromise b win m j mark steps old b m (back-refusal win mark no-block)
   unfolding ibz-back
   ibz-back-nine h = let y = ne-eqb (length b) block-length h in record { block = rw y; memory = rw y; answer = rw y }
+
+  -- at 9 nothing is altered, nothing undone, and the window stays
+  pub ibz-back-at-nine : (length b ≡ block-length → ⊥)
+      → ibz-back b win m j mark steps old ≡ record { b = b; m = m; j = j; a = record { number = 9; undone = 0; mark = mark; lo = win .lo; hi = win .hi } }
+  unfolding ibz-back
+  ibz-back-at-nine h = rw (ne-eqb (length b) block-length h)
 
   pub ibz-back-held : length b ≡ block-length → (s s₁ m₁ : List ℕ) (a : BackAnswer) → s ≡ slots-in b → BackPromise win old s m j mark steps s₁ m₁ a
       → (b₁ : List ℕ) → b₁ ≡ block-of s₁ → IbzBackPromise b win m j mark steps old b₁ m₁ a
