@@ -15,8 +15,9 @@ use lib.Dec.{leb}
 use borrow.Author.Tests.{leb-true, leb-false}
 use Rattle.numbers.specs.Number.{back}
 use Rattle.numbers.proofs.NumberLaws.{Bytes, bytes-rest}
+use Rattle.undo.specs.Undo.{shaped-record}
 use Rattle.oldest.specs.Room.{Row, row-bytes, rows-bytes, rows, read-rows, rows-of, dropped, RoomCall, missing, make-room}
-use Rattle.oldest.proofs.RowLaws.{Good, AllGood, back-as-reverse, rows-bytes-append, good-append, older-when-read, bytes-of-rows}
+use Rattle.oldest.proofs.RowLaws.{Good, AllGood, back-as-reverse, rows-bytes-append, good-append, record-puts, older-when-read, bytes-of-rows}
 use Rattle.oldest.proofs.RowLaws.{rows-read, rows-count, rows-of-bytes, good-drop}
 use Rattle.oldest.proofs.RoomLaws.{Made, there, refused, on-the-way, dropping, made-cases}
 use Rattle.calls.specs.Calls.{window-fits}
@@ -133,13 +134,13 @@ module _ (len : ℕ) (fits : len ≤ 2 ^ 32) where
         omega (arith, rows-count ours, ap length stand, length-append rest (rows-bytes ours), length-take-le mark j inside) in
         let text : back j mark ≡ reverse (rows-bytes ours) ++ reverse rest =
         back-as-reverse j mark ∙ ap reverse stand ∙ reverse-append rest (rows-bytes ours) in
-        let left : read-rows f len (reverse rest) (ours ++ []) ≡ rows all =
+        let left : read-rows (shaped-record len) f (reverse rest) (ours ++ []) ≡ rows all =
         sym (rows-read ours f len (reverse rest) [] fits good)
-        ∙ ap (λ (k : ℕ). read-rows k len (reverse (rows-bytes ours) ++ reverse rest) []) (sym enough)
-        ∙ ap (λ (s : List ℕ). read-rows mark len s []) (sym text)
+        ∙ ap (λ (k : ℕ). read-rows (shaped-record len) k (reverse (rows-bytes ours) ++ reverse rest) []) (sym enough)
+        ∙ ap (λ (s : List ℕ). read-rows (shaped-record len) mark s []) (sym text)
         ∙ read in
         let octets-left = bytes-rest (back j mark) (reverse (rows-bytes ours)) (reverse rest) text octets in
-        older-of (older-when-read f len (reverse rest) (ours ++ []) all left octets-left)
+        older-of (older-when-read (shaped-record len) row-bytes len (record-puts len) f (reverse rest) (ours ++ []) all left octets-left)
 
   pub rows-bytes-unique : (a b : List Row) → AllGood len a → AllGood len b → rows-bytes a ≡ rows-bytes b → a ≡ b
   rows-bytes-unique a b ga gb t =

@@ -57,7 +57,7 @@ abbrev AtLeast : ℕ → Way → Type 0
 AtLeast k (rows rs) = k ≤ length rs
 AtLeast k torn = Unit {0}
 
-all-kept : (f len : ℕ) (s : List ℕ) (acc : List Row) → AtLeast (length acc) (read-rows f len s acc)
+all-kept : (f len : ℕ) (s : List ℕ) (acc : List Row) → AtLeast (length acc) (read-rows (shaped-record len) f s acc)
 all-kept zero len [] acc = omega arith
 all-kept zero len (y ∷ s) acc = tt
 all-kept (suc f) len [] acc = omega arith
@@ -67,18 +67,18 @@ all-kept (suc f) len (y ∷ s) acc = go (λ t acc. all-kept f len t acc) (shaped
     less k (rows rs) h = omega (arith, h)
     less k torn h = tt
 
-    go : ((t : List ℕ) (acc : List Row) → AtLeast (length acc) (read-rows f len t acc)) → (r : Record)
-        → AtLeast (length acc) (more-rows (read-rows f len) acc r)
+    go : ((t : List ℕ) (acc : List Row) → AtLeast (length acc) (read-rows (shaped-record len) f t acc)) → (r : Record)
+        → AtLeast (length acc) (more-rows (read-rows (shaped-record len) f) acc r)
     go ih none = tt
     go ih (found ss bs t) =
-        let more : List Row = record { slots = ss; bytes = bs } ∷ acc in less (length acc) (read-rows f len t more) (ih t more)
+        let more : List Row = record { slots = ss; bytes = bs } ∷ acc in less (length acc) (read-rows (shaped-record len) f t more) (ih t more)
 
-one-read : (f len : ℕ) (s : List ℕ) → 0 < length s → AtLeast 1 (read-rows f len s [])
+one-read : (f len : ℕ) (s : List ℕ) → 0 < length s → AtLeast 1 (read-rows (shaped-record len) f s [])
 one-read f len [] h = absurd (omega (arith, h))
 one-read zero len (y ∷ s) h = tt
 one-read (suc f) len (y ∷ s) h = go (shaped-record len (y ∷ s))
   where
-    go : (r : Record) → AtLeast 1 (more-rows (read-rows f len) [] r)
+    go : (r : Record) → AtLeast 1 (more-rows (read-rows (shaped-record len) f) [] r)
     go none = tt
     go (found ss bs t) = all-kept f len t (record { slots = ss; bytes = bs } ∷ [])
 

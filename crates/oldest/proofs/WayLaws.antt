@@ -15,7 +15,7 @@ use Rattle.numbers.specs.Number.{back}
 use Rattle.numbers.proofs.NumberLaws.{Bytes}
 use Rattle.numbers.proofs.WrittenLaws.{back-suc}
 use Rattle.record.specs.Change.{Change, record-of}
-use Rattle.undo.specs.Undo.{found, none, shaped-record}
+use Rattle.undo.specs.Undo.{Record, found, none, shaped-record}
 use Rattle.undo.proofs.ReadLaws.{length-back}
 use Rattle.undo.proofs.ShapeLaws.{journal-of-shaped-record}
 use Rattle.oldest.specs.Room.{Row, row-bytes, rows-bytes, Way, rows, torn, at-end, more-rows, read-rows, rows-of, dropped, CutIs}
@@ -32,8 +32,8 @@ pub octets-back : (j : List ℕ) → ((k : ℕ) → getD j k 0 < 256) → (e : �
 octets-back j b zero h = rw (back-none j) tt
 octets-back j b (suc e) h = rw (back-suc j e (omega arith)) (b e, octets-back j b e (omega arith))
 
--- ---- one record of the way
-module _ (len : ℕ) (j : List ℕ) (e : ℕ) (some : 0 < e) (inside : e ≤ length j) where
+-- ---- one record of the way, however it is read
+module _ (read : List ℕ → Record) (j : List ℕ) (e : ℕ) (some : 0 < e) (inside : e ≤ length j) where
   not-end : (a b : Way) → at-end (back j e) a b ≡ b
   not-end a b = go (back j e) (length-back j e inside)
     where
@@ -41,24 +41,23 @@ module _ (len : ℕ) (j : List ℕ) (e : ℕ) (some : 0 < e) (inside : e ≤ len
       go [] q = absurd (omega arith)
       go (x ∷ s) q = refl
 
-  pub way-torn : (f : ℕ) (acc : List Row) → e ≤ f → shaped-record len (back j e) ≡ none → read-rows f len (back j e) acc ≡ torn
+  pub way-torn : (f : ℕ) (acc : List Row) → e ≤ f → read (back j e) ≡ none → read-rows read f (back j e) acc ≡ torn
   way-torn zero acc h q = absurd (omega arith)
-  way-torn (suc f) acc h q =
-      not-end (rows acc) (more-rows (read-rows f len) acc (shaped-record len (back j e))) ∙ ap (more-rows (read-rows f len) acc) q
+  way-torn (suc f) acc h q = not-end (rows acc) (more-rows (read-rows read f) acc (read (back j e))) ∙ ap (more-rows (read-rows read f) acc) q
 
-  pub way-more : (f : ℕ) (acc : List Row) → e ≤ f → (ss bs : List Change) (s : ℕ) → shaped-record len (back j e) ≡ found ss bs (back j s)
-      → read-rows f len (back j e) acc ≡ read-rows (f - 1) len (back j s) (record { slots = ss; bytes = bs } ∷ acc)
+  pub way-more : (f : ℕ) (acc : List Row) → e ≤ f → (ss bs : List Change) (s : ℕ) → read (back j e) ≡ found ss bs (back j s)
+      → read-rows read f (back j e) acc ≡ read-rows read (f - 1) (back j s) (record { slots = ss; bytes = bs } ∷ acc)
   way-more zero acc h ss bs s q = absurd (omega arith)
   way-more (suc f) acc h ss bs s q =
       let one-less : f ≡ suc f - 1 = omega arith in
-      not-end (rows acc) (more-rows (read-rows f len) acc (shaped-record len (back j e)))
-      ∙ ap (more-rows (read-rows f len) acc) q
-      ∙ ap (λ (k : ℕ). read-rows k len (back j s) (record { slots = ss; bytes = bs } ∷ acc)) one-less
+      not-end (rows acc) (more-rows (read-rows read f) acc (read (back j e)))
+      ∙ ap (more-rows (read-rows read f) acc) q
+      ∙ ap (λ (k : ℕ). read-rows read k (back j s) (record { slots = ss; bytes = bs } ∷ acc)) one-less
 
-pub way-end : (f len : ℕ) (j : List ℕ) (e : ℕ) (acc : List Row) → e ≡ 0 → read-rows f len (back j e) acc ≡ rows acc
+pub way-end : (read : List ℕ → Record) (f : ℕ) (j : List ℕ) (e : ℕ) (acc : List Row) → e ≡ 0 → read-rows read f (back j e) acc ≡ rows acc
 unfolding back
-way-end zero len j e acc z = rw z
-way-end (suc f) len j e acc z = rw z
+way-end read zero j e acc z = rw z
+way-end read (suc f) j e acc z = rw z
 
 -- ---- the bytes of a record that was read, and where it starts
 module _ (len : ℕ) (j : List ℕ) (e s : ℕ) (inside : e ≤ length j) (low : s ≤ e) (octets : Bytes (back j e)) (ss bs : List Change)
@@ -80,7 +79,7 @@ pub record Seen (len : ℕ) (j : List ℕ) (mark need e from n : ℕ) : Type 0 w
   pub enough : e ≤ fuel
   pub high : from ≤ mark
   pub few : n + e ≤ mark
-  pub way : rows-of len j mark ≡ read-rows fuel len (back j e) rest
+  pub way : rows-of len j mark ≡ read-rows (shaped-record len) fuel (back j e) rest
   pub count : n ≡ dropped need e rest
   pub all : slice e mark j ≡ rows-bytes rest
   pub kept : slice from mark j ≡ rows-bytes (drop n rest)
@@ -102,7 +101,7 @@ seen-start len j mark need =
 
 module _ (len : ℕ) (j : List ℕ) (mark need e from n : ℕ) (inside : mark ≤ length j) (some : 0 < e) (w : Seen len j mark need e from n) where
   pub seen-torn : shaped-record len (back j e) ≡ none → CutIs len j mark need Torn
-  seen-torn q = w .way ∙ way-torn len j e some (omega (arith, w .few)) (w .fuel) (w .rest) (w .enough) q
+  seen-torn q = w .way ∙ way-torn (shaped-record len) j e some (omega (arith, w .few)) (w .fuel) (w .rest) (w .enough) q
 
   module _ (octets : (k : ℕ) → getD j k 0 < 256) (ss bs : List Change) (s : ℕ) (less : s < e)
       (q : shaped-record len (back j e) ≡ found ss bs (back j s)) where
@@ -129,7 +128,7 @@ module _ (len : ℕ) (j : List ℕ) (mark need e from n : ℕ) (inside : mark �
           enough = omega (arith, w .enough);
           high = w .high;
           few = omega (arith, w .few);
-          way = w .way ∙ way-more len j e some ends (w .fuel) (w .rest) (w .enough) ss bs s q;
+          way = w .way ∙ way-more (shaped-record len) j e some ends (w .fuel) (w .rest) (w .enough) ss bs s q;
           count = rw (t, starts, ← w .count) (add-one n);
           all = joined;
           kept = w .kept ∙ ap (λ (k : ℕ). rows-bytes (drop k (row ∷ w .rest))) (sym (add-one n));
@@ -141,7 +140,7 @@ module _ (len : ℕ) (j : List ℕ) (mark need e from n : ℕ) (inside : mark �
           enough = omega (arith, w .enough);
           high = omega (arith, w .few);
           few = omega (arith, w .few);
-          way = w .way ∙ way-more len j e some ends (w .fuel) (w .rest) (w .enough) ss bs s q;
+          way = w .way ∙ way-more (shaped-record len) j e some ends (w .fuel) (w .rest) (w .enough) ss bs s q;
           count = rw t;
           all = joined;
           kept = joined;
@@ -157,7 +156,7 @@ module _ (len : ℕ) (j : List ℕ) (mark need e from n : ℕ) (inside : mark �
 pub seen-end : (len : ℕ) (j : List ℕ) (mark need e from n : ℕ) → Seen len j mark need e from n → e ≡ 0 → CutIs len j mark need (At from n)
 seen-end len j mark need e from n w z = (
   w .rest,
-  w .way ∙ way-end (w .fuel) len j e (w .rest) z,
+  w .way ∙ way-end (shaped-record len) (w .fuel) j e (w .rest) z,
   w .count ∙ ap (λ (k : ℕ). dropped need k (w .rest)) z,
   w .high,
   w .kept,

@@ -27,10 +27,14 @@ pub record Row : Type 0 where
 abbrev pub row-bytes : Row → List ℕ
 row-bytes r = record-of (r .slots) (r .bytes)
 
--- Those of several records, one after the other. [01 The journal]
+-- Those of several records, one after the other, each as put writes it. [01 The journal]
+abbrev pub rows-by : (Row → List ℕ) → List Row → List ℕ
+rows-by put [] = []
+rows-by put (r ∷ rs) = put r ++ rows-by put rs
+
+-- Those of form 1. [01 The journal]
 abbrev pub rows-bytes : List Row → List ℕ
-rows-bytes [] = []
-rows-bytes (r ∷ rs) = row-bytes r ++ rows-bytes rs
+rows-bytes rs = rows-by row-bytes rs
 
 -- All records on the way back, the oldest first; or one of them is not well shaped. [K5]
 pub data Way : Type 0 where
@@ -47,14 +51,15 @@ abbrev pub at-end : List ℕ → Way → Way → Way
 at-end [] a b = a
 at-end (x ∷ s) a b = b
 
--- The records that make up what is read, at most f of them, for a memory of len bytes, put before acc. [K5]
-abbrev pub read-rows : ℕ → ℕ → List ℕ → List Row → Way
-read-rows zero len s acc = at-end s (rows acc) torn
-read-rows (suc f) len s acc = at-end s (rows acc) (more-rows (read-rows f len) acc (shaped-record len s))
+-- The records that make up what is read, at most f of them, each as read finds it, put before acc. [K5]
+abbrev pub read-rows : (List ℕ → Record) → ℕ → List ℕ → List Row → Way
+read-rows read zero s acc = at-end s (rows acc) torn
+read-rows read (suc f) s acc = at-end s (rows acc) (more-rows (read-rows read f) acc (read s))
 
--- The records below the mark, from it back to place 0: no record is empty, so they are at most as many as bytes. [K5]
+-- The records below the mark, from it back to place 0, for a memory of len bytes: no record is empty, so they are at most as many as
+-- bytes. [K5]
 unfoldable pub rows-of : ℕ → List ℕ → ℕ → Way
-rows-of len j mark = read-rows mark len (back j mark) []
+rows-of len j mark = read-rows (shaped-record len) mark (back j mark) []
 
 -- ---- what is dropped
 

@@ -10,6 +10,8 @@ pub const BYTE_LIMIT: usize = 70;
 
 pub const LONGEST_RECORD: usize = 536;
 
+pub const LONGEST_RECORD_TWO: usize = 606;
+
 pub const STATUS_SLOT: u32 = codes::SR as u32;
 
 pub const MODE_SLOT: u32 = codes::MODE as u32;

@@ -24,7 +24,7 @@ pub record Walked (len : ℕ) (j : List ℕ) (mark e : ℕ) (acc : List Row) : T
   pub fuel : ℕ
   pub enough : e ≤ fuel
   pub low : e ≤ mark
-  pub way : rows-of len j mark ≡ read-rows fuel len (back j e) acc
+  pub way : rows-of len j mark ≡ read-rows (shaped-record len) fuel (back j e) acc
 
 walked-start : (len : ℕ) (j : List ℕ) (mark : ℕ) → Walked len j mark mark []
 unfolding rows-of
@@ -32,7 +32,7 @@ walked-start len j mark = record { fuel = mark; enough = omega arith; low = omeg
 
 module _ (len : ℕ) (j : List ℕ) (mark e : ℕ) (acc : List Row) (inside : mark ≤ length j) (some : 0 < e) (w : Walked len j mark e acc) where
   walked-torn : shaped-record len (back j e) ≡ none → rows-of len j mark ≡ torn
-  walked-torn q = w .way ∙ way-torn len j e some (omega (arith, w .low)) (w .fuel) acc (w .enough) q
+  walked-torn q = w .way ∙ way-torn (shaped-record len) j e some (omega (arith, w .low)) (w .fuel) acc (w .enough) q
 
   walked-more : (ss bs : List Change) (s : ℕ) → s < e → shaped-record len (back j e) ≡ found ss bs (back j s) → Walked len j mark s (record { slots = ss; bytes = bs } ∷ acc)
   walked-more ss bs s less q =
@@ -40,11 +40,11 @@ module _ (len : ℕ) (j : List ℕ) (mark e : ℕ) (acc : List Row) (inside : ma
         fuel = w .fuel - 1;
         enough = omega (arith, w .enough);
         low = omega (arith, w .low);
-        way = w .way ∙ way-more len j e some (omega (arith, w .low)) (w .fuel) acc (w .enough) ss bs s q;
+        way = w .way ∙ way-more (shaped-record len) j e some (omega (arith, w .low)) (w .fuel) acc (w .enough) ss bs s q;
       }
 
 walked-end : (len : ℕ) (j : List ℕ) (mark e : ℕ) (acc : List Row) → Walked len j mark e acc → e ≡ 0 → rows-of len j mark ≡ rows acc
-walked-end len j mark e acc w z = w .way ∙ way-end (w .fuel) len j e acc z
+walked-end len j mark e acc w z = w .way ∙ way-end (shaped-record len) (w .fuel) j e acc z
 
 -- ---- an entry, once x is noted at entry k
 pub entry-of-set : (P : ℕ → Type 0) (l : List ℕ) (k x q : ℕ) → q < length (set l k x) → P x → P (getD l q 0) → P (getD (set l k x) q 0)

@@ -33,7 +33,7 @@ pub enum Answer {
 }
 
 // Reads n changes back from place end into the first n entries of out, each place below the one after it and the last below limit.
-fn read_changes(journal: &[u8], end: usize, n: usize, limit: usize, out: &mut [u64]) -> Run
+pub fn read_changes(journal: &[u8], end: usize, n: usize, limit: usize, out: &mut [u64]) -> Run
     requires { ⌜ (end ≤ length (now journal)) × (n ≤ length (now out)) ⌝ }
     ensures { λ r. ⌜ RunIs (now (journal .entry)) end n limit (now (out .exit)) r ⌝ }
 {
@@ -101,7 +101,7 @@ fn valid_for(bytes: bool, place: u32, v: u32) -> bool
 }
 
 // Whether each old value of a log is one that its place can hold.
-fn all_valid(bytes: bool, log: &[u64], n: usize) -> bool
+pub fn all_valid(bytes: bool, log: &[u64], n: usize) -> bool
     requires { ⌜ n ≤ length (now log) ⌝ }
     ensures { λ r. ⌜ r ≡ all-valid (valid-for bytes) (changes (now (log .entry)) n) ⌝ }
 {
