@@ -1,0 +1,4 @@
+pub mod Forms
+pub mod Promises
+pub mod Answers
+pub mod Examples

@@ -1,0 +1,6 @@
+pub mod RunLaws
+pub mod ReadRunLaws
+pub mod StepLaws
+pub mod TwoLaws
+pub mod LongestLaws
+pub mod PutLaws
