@@ -1,6 +1,7 @@
 -- Promises.antt - all that a conversion promises: its answer and the target afterwards, for every input. The journal is only read.
 -- Laws: proofs/FormLaws.antt (convert-unique).
 -- Source: [K8], [01 How much each promise says].
+use Prim.Native.Nat.{ℕ}
 use mathlib.Core.Path.{_≡_}
 use mathlib.Core.List.{List}
 use Rattle.forms.specs.declared.Form.{Form}

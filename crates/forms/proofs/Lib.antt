@@ -1,0 +1,5 @@
+pub mod FormLaws
+pub mod JournalLaws
+pub mod RecordLaws
+pub mod ConvertLaws
+pub mod ExampleLaws
