@@ -1,15 +1,19 @@
-// lib.rt - the calls from C: reset, step and run in both manners, undo, the tryer, with the state in a lent block of 80 bytes. No `requires`.
-// Means: Calls and Promises of the crate block_calls, where the laws and the theorems stand.
-// Uses: bus, block, calls, block_calls, keeping, machine, tries.  Declared for C in c/ibezofanle.h.  Source: [K1], [K2], [K5], [K7].
+// lib.rt - the calls from C: reset, step and run in both manners, undo, the tryer, with the state in a lent block of 80 bytes; the two
+// conversions of a journal. No `requires`.  Declared for C in c/ibezofanle.h.
+// Means: Calls and Promises of the crate block_calls, Promises of forms, where the laws and the theorems stand.
+// Uses: bus, block, calls, block_calls, keeping, machine, tries, forms.  Source: [K1], [K2], [K5], [K7], [K8].
 ghost use Rattle.calls.specs.declared.Manner.the-variants.{Dropping, Keeping};
 ghost use Rattle.block_calls.specs.Promises.{IbzResetPromise, IbzStepPromise, IbzRunPromise, IbzUndoPromise};
 ghost use Rattle.block_calls.specs.Tries.{IbzTryPromise, IbzBackPromise};
+ghost use Rattle.forms.specs.declared.Form.the-variants.{One, Two};
+ghost use Rattle.forms.specs.Promises.{ConvertPromise};
 use block::BLOCK_LENGTH;
 use bus::Window;
 use calls::ResetAnswer;
 use calls::RunAnswer;
 use calls::StepAnswer;
 use calls::UndoAnswer;
+use forms::FormAnswer;
 use keeping::NO_CLOCKS;
 use tries::BackAnswer;
 use tries::TryAnswer;
@@ -249,4 +253,20 @@ pub extern "C" fn ibz_take_back(
     let a = tries::take_back(&mut slots, win, memory, journal, mark, steps, old);
     block::put_block(block, &slots);
     a
+}
+
+// ---- form 2, for posting: no state is lent, and no block is asked for
+
+#[no_mangle]
+pub extern "C" fn ibz_to_form_two(journal: &[u8], target: &mut [u8]) -> FormAnswer
+    ensures { λ a. ⌜ ConvertPromise One (now (journal .entry)) (now (target .entry)) (now (target .exit)) a ⌝ }
+{
+    forms::to_form_two(journal, target)
+}
+
+#[no_mangle]
+pub extern "C" fn ibz_to_form_one(journal: &[u8], target: &mut [u8]) -> FormAnswer
+    ensures { λ a. ⌜ ConvertPromise Two (now (journal .entry)) (now (target .entry)) (now (target .exit)) a ⌝ }
+{
+    forms::to_form_one(journal, target)
 }

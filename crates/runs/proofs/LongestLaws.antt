@@ -1,8 +1,8 @@
 -- LongestLaws.antt - how long a well-shaped record is at most, in form 1 and in form 2.
--- * longest-one, longest-two: every one.   * longest-two-sum: 606 is 114 + 490 + 2.
+-- * longest-one, longest-two: every one.
 -- Speaks of: record-of of record, record-two of specs/Two.antt, Good of oldest.  Source: [K8], [01 The journal].
 use Prim.Native.Nat.{ℕ, suc, _+_, _*_, _^_, _≤_, _<_}
-use mathlib.Core.Path.{_≡_, refl}
+use mathlib.Core.Path.{_≡_}
 use mathlib.Core.Bool.{true}
 use mathlib.Core.List.{List, [], _∷_, _++_}
 use native.Mathlib.Omega.{arith}
@@ -11,7 +11,7 @@ use Rattle.codes.specs.Codes.{Addresses}
 use Rattle.bits.proofs.BitsLaws.{and-left, and-right}
 use Rattle.numbers.specs.Number.{number-bytes}
 use Rattle.numbers.proofs.NumberLaws.{Bytes, number-bytes-size}
-use Rattle.record.specs.Limits.{byte-limit, longest-record, longest-record-two, slots-longest, valid-value}
+use Rattle.record.specs.Limits.{longest-record, longest-record-two, valid-value}
 use Rattle.record.specs.Change.{Change}
 use Rattle.record.proofs.DiffLaws.{Small}
 use Rattle.record.proofs.SizeLaws.{weight, weighs, Weighed, slots-part, length-of-record}
@@ -23,9 +23,6 @@ use Rattle.runs.specs.Runs.{Stretch, runs, numbers-bytes, run-bytes, run
 use Rattle.runs.specs.Two.{record-two}
 use Rattle.runs.proofs.RunLaws.{total, Spaced, RunBytes, spaced-of-runs, bytes-of-runs, runs-few}
 use Rattle.runs.proofs.TwoLaws.{two-bytes, total-of-runs}
-
-pub longest-two-sum : longest-record-two ≡ slots-longest + 7 * byte-limit + 2
-longest-two-sum = refl
 
 -- ---- the slots, in both forms
 weighed-of-valid : (cs : List Change) → all-valid valid-value cs ≡ true → Small cs → Weighed weight cs
