@@ -1,7 +1,8 @@
 /* forms.c - the conversions of a journal into form 2, for posting, and back (K8), held to forms.h: examples by hand, every kind of damage at
  * its edges, all short journals, every one-byte change of some, the longest record, random journals whole and damaged, and one that steps
- * wrote. Each call is made twice, on buffers that end where pages that can not be touched begin, and on such that begin where they end, and
- * is held to this: number and length; every byte of the target, past the answer and after a refusal too; no byte of the journal altered.
+ * wrote. Journal and target end where pages that can not be touched begin, or begin where they end: each is tried on both, the short ones by
+ * turns. A call is held to this: number and length; every byte of the target, past the answer and after a refusal too; no byte of the
+ * journal is altered.
  * Arguments: how many random journals, and a seed. */
 #include "forms.h"
 
@@ -38,7 +39,7 @@ static void one_call(unsigned to, const uint8_t *bytes, size_t n, size_t room, s
   done_in_all += number == 0, refused_in_all += number != 0;
 }
 
-/* A journal with one room: what it needs, or some where a record is not well shaped. For the many. */
+/* A journal with one room: what it needs, or some where a record is not well shaped. For those that are many. */
 static size_t quick(unsigned to, const uint8_t *bytes, size_t n) {
   static int at_end;
   const size_t length = converted(to, bytes, n, wanted, TARGET);
@@ -350,6 +351,10 @@ static size_t damaged(uint8_t *bytes, size_t n) {
 static void randoms(unsigned long journals_in_all) {
   static uint8_t bytes[JOURNAL + 8];
   unsigned long whole = 0;
+  if (journals_in_all > 0) { /* the most records that find place; and one byte of 00 that is no record */
+    EXPECT(quick(2, bytes, JOURNAL) == JOURNAL && quick(1, bytes, JOURNAL) == JOURNAL);
+    EXPECT(quick(2, bytes, JOURNAL - 1) == NOWHERE && quick(1, bytes, JOURNAL - 1) == NOWHERE);
+  }
   for (unsigned long i = 0; i < journals_in_all && fails <= 20; i++) {
     const unsigned form = 1 + below(2);
     size_t n = random_journal(form, bytes, i % 256 == 255 ? 60000 : below(3) ? below(4) : below(30));
