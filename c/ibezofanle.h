@@ -1,5 +1,5 @@
-/* ibezofanle.h - an MC68000 whose every step can be taken back: reset, step, run and undo, and a fence to try programs in, for C11 and
- * C++17.
+/* ibezofanle.h - an MC68000 whose every step can be taken back: reset, step, run and undo, a fence to try programs in, and journals for
+ * posting, for C11 and C++17.
  *
  * You lend five things, and keep them between calls:
  *
@@ -39,18 +39,24 @@
  * them back, at every step: some 250 instructions a record. An ibz_run does so once, where it first finds the journal full, and from
  * then on reads only those that are about to be dropped: where a journal is long and full, prefer runs.
  *
+ * The records that steps write are in form 1. Form 2 is for posting: the same records in the same order, but changed bytes at neighbouring
+ * addresses are joined into runs, each with one address. ibz_to_form_two converts a whole journal into it, ibz_to_form_one converts it back;
+ * a journal of either form whose records are well shaped, all of them, comes back byte for byte through the other. Neither needs a machine.
+ * Steps and undos read form 1 only: a journal that was posted is converted back first. The bytes do not tell which form they are in, and
+ * some are well shaped in both: say it beside them.
+ *
  * Every answer has a `number`: 0 if the call was done, else why it was refused (enum ibz_number). A refused step, run or undo
  * leaves block, memory, journal and mark as they were. A refused reset sets the halted state, 2 in slot 19 and 0 in every other; but
  * a block that is not 80 bytes long (IBZ_NO_BLOCK) is never written. Of a try and of taking back, what came before the refused step or
- * undo stays done.
+ * undo stays done. A refused conversion leaves every byte of the target as it was.
  *
- * The calls take any values whatever: any bytes in block, memory and journal, any lengths, any mark, any window. Each ends, and touches
+ * The calls take any values whatever: any bytes in block, memory, journal and target, any lengths, any mark, any window. Each ends, and touches
  * nothing but what it was lent. That is proved of the library, for a caller who keeps to what no C function can check:
  *
  *   - a pointer is good for its length: for reading, and for writing where it is not const. It may be NULL if its length is 0.
  *     It may have any alignment.
  *   - a length is at most PTRDIFF_MAX, as that of every C object is.
- *   - block, memory and journal do not overlap.
+ *   - block, memory and journal do not overlap; nor do the journal and the target of a conversion, not by one byte.
  *   - nobody else uses them during the call. The library itself keeps nothing between calls and has no variables: several threads
  *     may call it at the same time, each on a machine of its own.
  *
@@ -68,13 +74,14 @@
 extern "C" {
 #endif
 
-#define IBZ_VERSION 4
+#define IBZ_VERSION 5
 
 /* ---- sizes and limits */
 
 #define IBZ_BLOCK_LENGTH 80u       /* bytes of the block */
 #define IBZ_SLOTS 20u              /* slots in it */
 #define IBZ_RECORD_MOST 536u       /* bytes of the longest record: what a step wants free in the journal */
+#define IBZ_RECORD_TWO_MOST 606u   /* bytes of the longest record of form 2 */
 #define IBZ_MEMORY_LEAST 1024u     /* bytes of memory, an even number of them */
 #define IBZ_MEMORY_MOST 16777216u
 #define IBZ_LEVEL_MOST 7u          /* an interrupt's level */
@@ -102,8 +109,8 @@ enum ibz_mode {
 
 /* ---- answers */
 
-/* `number` of every answer. Where several apply: the first of 9, 1, 2, 10, 3, 4, 5, 6, 7, 8 that the call can give. ibz_try is refused as
- * ibz_step_keeping is, ibz_take_back as ibz_undo is. */
+/* `number` of every answer. Where several apply: the first of 9, 1, 2, 10, 3, 4, 5, 6, 7, 8, 11 that the call can give. ibz_try is refused as
+ * ibz_step_keeping is, ibz_take_back as ibz_undo is. Of a conversion (form below) 8 comes before 11: all records are judged first. */
 enum ibz_number {
   IBZ_DONE = 0,
   IBZ_BAD_MEMORY = 1,   /* reset step run undo   memory's length is odd, below 1,024 or above 16,777,216 */
@@ -117,9 +124,12 @@ enum ibz_number {
   IBZ_BAD_RECORD = 8,   /*                undo   what stands below the mark is no well-formed record for this state and memory
                          *       step            fewer than 536 bytes of journal are after the mark, and below it, on the way back to
                          *                       place 0, stands no well-shaped record for this length of memory: one that is well formed
-                         *                       but for the comparison with what state and memory hold (ibz_step alone) */
+                         *                       but for the comparison with what state and memory hold (ibz_step alone)
+                         * form                  read from the journal's end, on the way back to place 0, stands no well-shaped record of
+                         *                       the form that it is to be in, with addresses below 16,777,216, whatever the memory */
   IBZ_NO_BLOCK = 9,     /* reset step run undo   the block is not 80 bytes long; nothing else is looked at */
-  IBZ_BAD_WINDOW = 10   /*       step run undo   lo is above hi, or hi is above memory's length. lo and hi may be equal: nothing is inside */
+  IBZ_BAD_WINDOW = 10,  /*       step run undo   lo is above hi, or hi is above memory's length. lo and hi may be equal: nothing is inside */
+  IBZ_TARGET_SHORT = 11 /* form                  the target is shorter than the journal in the other form */
 };
 
 /* `reason` of a run that was done: the first of these, in this order, that held before a further step. */
@@ -209,6 +219,11 @@ struct ibz_back_answer {
   uint32_t hi;
 };
 
+struct ibz_form_answer {
+  uint32_t number; /* enum ibz_number */
+  size_t length;   /* bytes of the other form, from the target's start on; 0 if refused */
+};
+
 /* ---- the calls */
 
 /* SSP from address 0 of memory, PC from 4, SR 0x2700, every other slot 0; the window is all of memory. What the block holds before does
@@ -257,6 +272,19 @@ struct ibz_try_answer ibz_try(uint8_t *block, size_t block_length, uint32_t lo, 
 struct ibz_back_answer ibz_take_back(uint8_t *block, size_t block_length, uint32_t lo, uint32_t hi, uint8_t *memory, size_t memory_length,
                                      const uint8_t *journal, size_t journal_length, size_t mark, uint32_t steps, uint32_t old_lo,
                                      uint32_t old_hi);
+
+/* ---- journals for posting */
+
+/* A whole journal of form 1 in form 2. The journal is exactly its used bytes: give the mark as its length. It is only read. With number 0
+ * the first `length` bytes of the target are the other form; the target's bytes past them stay. An empty journal gives 0 and length 0.
+ *   A target of half again the journal's length, journal_length + journal_length / 2, is always long enough. A run of one byte is one byte
+ * longer than its entry in form 1, a longer run not longer than its entries; so a record with k changed bytes grows by at most k, and it has
+ * 2 k + 2 bytes or more in form 1. Refused by 8, 11. */
+struct ibz_form_answer ibz_to_form_two(const uint8_t *journal, size_t journal_length, uint8_t *target, size_t target_length);
+
+/* And back: a whole journal of form 2 in form 1. All else is as above. A target of five times the journal's length is always long enough:
+ * an old byte, which form 2 has too, gets an address of at most four bytes beside it. Refused by 8, 11. */
+struct ibz_form_answer ibz_to_form_one(const uint8_t *journal, size_t journal_length, uint8_t *target, size_t target_length);
 
 /* ---- small helpers; `slot` is below IBZ_SLOTS */
 
@@ -313,9 +341,10 @@ static inline const char *ibz_number_text(uint32_t number) {
   case IBZ_JOURNAL_FULL: return "the journal has no room for a record";
   case IBZ_IS_HALTED: return "the machine is halted";
   case IBZ_NO_RECORD: return "nothing is left to take back";
-  case IBZ_BAD_RECORD: return "a record below the mark is not a good one";
+  case IBZ_BAD_RECORD: return "a record of the journal is not a good one";
   case IBZ_NO_BLOCK: return "the block is not 80 bytes long";
   case IBZ_BAD_WINDOW: return "the window ends before it begins, or beyond memory";
+  case IBZ_TARGET_SHORT: return "the target is too short for the other form";
   default: return "an unknown refusal";
   }
 }

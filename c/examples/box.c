@@ -1,4 +1,5 @@
-/* box.c - a small host to start from: loads an image, steps, runs, shows the machine, goes back, and tries programs in a window.
+/* box.c - a small host to start from: loads an image, steps, runs, shows the machine, goes back, tries programs in a window, and writes the
+ * journal to a file, for posting.
  *
  *   box [-d] [-m BYTES] [-j BYTES] [-a ADDRESS] IMAGE
  *
@@ -33,6 +34,8 @@ static const char help[] =
     "irq LEVEL VECTOR      do a step that asks for an interrupt\n"
     "back [N]              take N steps back (1); `back all` takes back all\n"
     "forget                keep the machine as it is, and give up the way back: the journal is empty again\n"
+    "journal FILE          write the journal's used bytes to FILE, as they are: form 1\n"
+    "post FILE             write them to FILE in form 2, for posting\n"
     "window LO HI          in user state, let the program reach memory from LO to below HI only\n"
     "try LO HI [N]         do N steps (1000) in that window, up to the first exception; tell how it ended, and take all back\n"
     "regs                  show the registers\n"
@@ -226,6 +229,35 @@ static void try_in(uint32_t from, uint32_t to, uint32_t count) {
   show_place(clocks);
 }
 
+/* ---- what is written */
+
+/* Over what the file held before; or says that it can not be. */
+static int write_file(const char *name, const uint8_t *bytes, size_t n) {
+  FILE *f = fopen(name, "wb");
+  int good = f != NULL && fwrite(bytes, 1, n, f) == n;
+  if (f != NULL && fclose(f) != 0) good = 0; /* where a disk is full it may be told only here */
+  if (!good) printf("%s can not be written\n", name);
+  return good;
+}
+
+static void write_journal(const char *name) {
+  if (write_file(name, journal, mark)) printf("%zu bytes of journal\n", mark);
+}
+
+/* Form 2 finds room in half again the journal's length. The file is written only once all is converted. */
+static void post(const char *name) {
+  const size_t room = mark + mark / 2;
+  uint8_t *const two = (uint8_t *)calloc(room + 1, 1); /* one more: NULL is then no memory, and not 0 bytes */
+  if (two == NULL) {
+    puts("no memory for form 2");
+    return;
+  }
+  const struct ibz_form_answer a = ibz_to_form_two(journal, mark, two, room);
+  if (a.number != IBZ_DONE) show_refusal(a.number);
+  else if (write_file(name, two, a.length)) printf("%zu bytes of journal, %zu bytes in form 2\n", mark, a.length);
+  free(two);
+}
+
 /* ---- what is asked */
 
 enum { WORDS = 5, NUMBERS = 3 };
@@ -254,12 +286,14 @@ static int asked(char *line) {
   unsigned long v[NUMBERS] = {0, 0, 0};
   const int n = split(line, w), has_a = n > 1, has_b = n > 2;
   if (n == 0) return 1;
-  int good = n <= 1 + NUMBERS; /* every further word is a number */
+  int good = n <= 1 + NUMBERS; /* every further word is a number, but `all` and a file's name */
   for (int i = 1; i < n && good; i++) good = number(w[i], &v[i - 1]);
   const unsigned long a = v[0], b = v[1], most = 0xFFFFFFFFu;
   if (strcmp(w[0], "quit") == 0) return 0;
   if (strcmp(w[0], "help") == 0) printf("%s", help);
   else if (strcmp(w[0], "back") == 0 && n == 2 && strcmp(w[1], "all") == 0) back(standing - gone);
+  else if (strcmp(w[0], "journal") == 0 && n == 2) write_journal(w[1]);
+  else if (strcmp(w[0], "post") == 0 && n == 2) post(w[1]);
   else if (!good) puts("that is no number: `help` lists what can be asked");
   else if (strcmp(w[0], "step") == 0 && n <= 2)
     for (unsigned long k = has_a ? a : 1; k > 0 && step(0, 0); k--) {}

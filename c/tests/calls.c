@@ -1,5 +1,5 @@
 /* calls.c - the calls by hand: every refusal by itself and in the order of the table, 01's examples, the way back on other blocks,
- * and what the header declares. Steps and runs keep all records, as 01 has them; dropping.c tries those that drop. */
+ * and what the header declares. Steps and runs keep all records, as 01 has them; dropping.c tries those that drop, forms.c the conversions. */
 #include "tests.h"
 
 enum { MEMORY = 65536, JOURNAL = 4096, BLOCK = IBZ_BLOCK_LENGTH };
@@ -439,6 +439,7 @@ static void layout(void) {
   EXPECT(sizeof(struct ibz_reset_answer) == 12 && sizeof(struct ibz_step_answer) == 40);
   EXPECT(sizeof(struct ibz_run_answer) == 40 && sizeof(struct ibz_undo_answer) == 16);
   EXPECT(sizeof(struct ibz_try_answer) == 24 && sizeof(struct ibz_back_answer) == 24);
+  EXPECT(sizeof(struct ibz_form_answer) == 16 && offsetof(struct ibz_form_answer, length) == 8);
   EXPECT(offsetof(struct ibz_reset_answer, lo) == 4 && offsetof(struct ibz_reset_answer, hi) == 8);
   EXPECT(offsetof(struct ibz_try_answer, number) == 4 && offsetof(struct ibz_try_answer, vector) == 8);
   EXPECT(offsetof(struct ibz_try_answer, steps) == 12 && offsetof(struct ibz_try_answer, mark) == 16);
@@ -447,7 +448,7 @@ static void layout(void) {
   EXPECT(offsetof(struct ibz_step_answer, event) == 4 && offsetof(struct ibz_run_answer, reason) == 4);
   EXPECT(offsetof(struct ibz_step_answer, mark) == 8 && offsetof(struct ibz_run_answer, mark) == 8);
   EXPECT(offsetof(struct ibz_undo_answer, mark) == 8 && offsetof(struct ibz_run_answer, steps) == 16);
-  EXPECT(offsetof(struct ibz_step_answer, clocks) == 16 && offsetof(struct ibz_run_answer, clocks) == 20 && IBZ_VERSION == 4);
+  EXPECT(offsetof(struct ibz_step_answer, clocks) == 16 && offsetof(struct ibz_run_answer, clocks) == 20 && IBZ_VERSION == 5);
   EXPECT(offsetof(struct ibz_step_answer, moved) == 24 && offsetof(struct ibz_run_answer, moved) == 24);
   EXPECT(offsetof(struct ibz_step_answer, dropped) == 32 && offsetof(struct ibz_run_answer, dropped) == 32);
   for (unsigned i = 0; i < IBZ_SLOTS; i++) {
@@ -456,8 +457,8 @@ static void layout(void) {
     EXPECT(ibz_get(block, i) == 0x89ABCDEFu && block[4 * i] == 0x89 && block[4 * i + 3] == 0xEF && block[4 * i + 4] == 0x5A);
     EXPECT(i == 0 || block[4 * i - 1] == 0x5A);
   }
-  for (uint32_t n = 0; n <= 10; n++) /* a text for each, and no two alike */
-    for (uint32_t k = 0; k <= 11; k++) EXPECT((strcmp(ibz_number_text(n), ibz_number_text(k)) == 0) == (n == k));
+  for (uint32_t n = 0; n <= 11; n++) /* a text for each, and no two alike */
+    for (uint32_t k = 0; k <= 12; k++) EXPECT((strcmp(ibz_number_text(n), ibz_number_text(k)) == 0) == (n == k));
   for (uint32_t n = 0; n <= 6; n++)
     for (uint32_t k = 0; k <= 7; k++) EXPECT((strcmp(ibz_reason_text(n), ibz_reason_text(k)) == 0) == (n == k));
   for (uint32_t n = 1; n <= 5; n++)

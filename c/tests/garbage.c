@@ -9,7 +9,9 @@
  *   done again, by steps alone, they lead to the same, and take as many clocks, and move and drop as much: the step's own, or the run's;
  *   a try is the same as its steps, and is taken back, byte for byte; before a step that takes an exception or halts, T, S, mask, SSP and
  *   every byte outside the window stay, and other bytes there, and another SSP, lead to the same records and clocks; taking back is the
- *   same as its undos.
+ *   same as its undos;
+ *   a conversion alters nothing but its target, of that only as much as it says, and nothing if it is refused; what it made, converted back,
+ *   is the journal that it was given, and finds no room in a byte less.
  * Arguments: how many calls, and a seed. */
 #include "tests.h"
 
@@ -18,11 +20,11 @@ static const size_t lengths[LENGTHS] = {0, 1, 535, 536, 537, 1022, 1023, 1024, 1
 static const size_t block_lengths[BLOCKS] = {80, 79, 81, 0, 1, 92, BLOCK_MOST};
 
 /* Each at the start of its pages, and at their end. */
-static uint8_t *memories[2][LENGTHS], *journals[2][LENGTHS], *blocks[2][BLOCKS];
+static uint8_t *memories[2][LENGTHS], *journals[2][LENGTHS], *targets[2][LENGTHS], *blocks[2][BLOCKS];
 
 /* What is lent, and what it was before the call. */
 static uint8_t *block, *memory, *journal;
-static size_t block_length, memory_length, journal_length, mark;
+static size_t block_length, memory_length, journal_length, mark, begun; /* from `begun` on stand records of this box's steps */
 static uint32_t lo, hi;
 static uint8_t old_block[BLOCK_MOST], old_memory[LARGEST], old_journal[LARGEST];
 
@@ -85,7 +87,7 @@ static void lend(void) {
   block = blocks[end][b], memory = memories[end][m], journal = journals[end][j];
   block_length = block_lengths[b], memory_length = lengths[m], journal_length = lengths[j];
   fill_block(block, block_length), fill(memory, memory_length), fill(journal, journal_length);
-  mark = a_mark(journal_length);
+  mark = begun = a_mark(journal_length);
   a_window();
 }
 
@@ -149,8 +151,8 @@ static void one_by_one(struct ibz_run_answer a) {
   EXPECT(memcmp(journal, now_journal, journal_length) == 0);
 }
 
-/* A for 10. */
-static int can_give(const char *numbers, uint32_t number) { return number <= 10 && strchr(numbers, "0123456789A"[number]) != NULL; }
+/* A for 10, B for 11. */
+static int can_give(const char *numbers, uint32_t number) { return number <= 11 && strchr(numbers, "0123456789AB"[number]) != NULL; }
 
 static uint32_t one_reset(void) {
   const struct ibz_reset_answer a = ibz_reset(block, block_length, memory, memory_length);
@@ -296,12 +298,45 @@ static uint32_t one_back(void) {
   return number;
 }
 
+static unsigned long posted; /* conversions that were done, of some bytes */
+
+static struct ibz_form_answer form_by(int two, const uint8_t *from, size_t n, uint8_t *to, size_t room) {
+  return two ? ibz_to_form_two(from, n, to, room) : ibz_to_form_one(from, n, to, room);
+}
+
+/* The used bytes, from their start, from where this box's records begin or from anywhere, taken for either form. */
+static uint32_t one_form(int two) {
+  static uint8_t old_target[LARGEST], back[LARGEST];
+  const unsigned t = below(LENGTHS), how = below(4);
+  const size_t used = mark < journal_length ? mark : journal_length, room = lengths[t];
+  const size_t from = how == 0 ? 0 : how == 1 || begun > used ? below((uint32_t)used + 1) : begun, n = used - from;
+  uint8_t *const target = targets[below(2)][t];
+  memset(target, (int)below(256), room);
+  memcpy(old_target, target, room);
+  const struct ibz_form_answer a = form_by(two, journal + from, n, target, room);
+  const int fits = a.length <= (a.number == 0 ? room : 0);
+  EXPECT(can_give("08B", a.number) && (n != 0 || a.number == 0) && same_state() && same_journal(0, journal_length));
+  EXPECT(fits && memcmp(target + a.length, old_target + a.length, room - a.length) == 0);
+  if (a.number == 0 && fits) {
+    const struct ibz_form_answer b = form_by(!two, target, a.length, back, n);
+    EXPECT(b.number == 0 && b.length == n && memcmp(back, journal + from, n) == 0);
+    EXPECT(n == 0 || form_by(!two, target, a.length, back, n - 1).number == 11);
+    posted += n > 0;
+  }
+  return a.number;
+}
+
+static uint32_t to_two(void) { return one_form(1); }
+
+static uint32_t to_one(void) { return one_form(0); }
+
 int main(int argc, char **argv) {
   const unsigned long calls = argc > 1 ? strtoul(argv[1], NULL, 10) : 1000000;
   if (argc > 2) seed ^= strtoul(argv[2], NULL, 10) * 2654435761u;
-  unsigned long counts[6][11] = {{0}};
+  unsigned long counts[8][12] = {{0}};
   for (int end = 0; end < 2; end++) {
-    for (unsigned i = 0; i < LENGTHS; i++) memories[end][i] = guarded(lengths[i], end), journals[end][i] = guarded(lengths[i], end);
+    for (unsigned i = 0; i < LENGTHS; i++)
+      memories[end][i] = guarded(lengths[i], end), journals[end][i] = guarded(lengths[i], end), targets[end][i] = guarded(lengths[i], end);
     for (unsigned i = 0; i < BLOCKS; i++) blocks[end][i] = guarded(block_lengths[i], end);
   }
   for (unsigned long done = 0; done < calls;) {
@@ -309,21 +344,24 @@ int main(int argc, char **argv) {
     for (unsigned turn = below(24); turn > 0 && done < calls; turn--, done++) {
       keep();
       if (below(8) == 0) a_window();
-      static uint32_t (*const asked[])(void) = {one_reset, one_step, one_run, one_undo, one_try, one_back};
-      const unsigned call = below(16) == 0 ? 0 : 1 + below(5);
+      static uint32_t (*const asked[])(void) = {one_reset, one_step, one_run, one_undo, one_try, one_back, to_two, to_one};
+      const unsigned call = below(16) == 0 ? 0 : below(8) == 0 ? 6 + below(2) : 1 + below(5);
       const int bad = bad_window();
       const uint32_t number = asked[call]();
-      EXPECT((number == 9) == (block_length != IBZ_BLOCK_LENGTH));
-      EXPECT(number != 10 || bad);
-      EXPECT(!bad || call == 0 || number == 9 || number == 1 || number == 2 || number == 10 || (call == 5 && number == 0)); /* of 0 steps */
-      counts[call][number <= 10 ? number : 9]++;
+      if (mark < begun) begun = mark;
+      counts[call][number <= 11 ? number : 9]++;
+      if (call < 6) { /* a conversion asks for no block, memory and window */
+        EXPECT((number == 9) == (block_length != IBZ_BLOCK_LENGTH));
+        EXPECT(number != 10 || bad);
+        EXPECT(!bad || call == 0 || number == 9 || number == 1 || number == 2 || number == 10 || (call == 5 && number == 0)); /* of 0 steps */
+      }
       if (fails > 20) return verdict("garbage");
     }
   }
-  static const char *const names[] = {"reset", "step", "run", "undo", "try", "back"};
-  for (unsigned c = 0; c < 6; c++) {
+  static const char *const names[] = {"reset", "step", "run", "undo", "try", "back", "two", "one"};
+  for (unsigned c = 0; c < 8; c++) {
     printf("%-5s", names[c]);
-    for (unsigned n = 0; n < 11; n++)
+    for (unsigned n = 0; n < 12; n++)
       if (counts[c][n] != 0) printf("  %u: %lu", n, counts[c][n]);
     puts("");
   }
@@ -331,7 +369,8 @@ int main(int argc, char **argv) {
   printf("tries, by their ends:");
   for (unsigned i = 1; i <= 5; i++) printf(" %lu", tries[i]);
   printf("; %lu quiet steps in windows\n", quiet);
-  EXPECT(calls < 10000 || (dropped_in_all > 0 && quiet > 0));
+  printf("journals there and back: %lu\n", posted);
+  EXPECT(calls < 10000 || (dropped_in_all > 0 && quiet > 0 && posted > 0));
   for (unsigned i = 1; i <= 5; i++) EXPECT(calls < 10000 || tries[i] > 0);
   return verdict("garbage");
 }

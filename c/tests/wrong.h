@@ -1,17 +1,18 @@
-/* wrong.h - the calls with one mistake each, to test the tests: built with -DWRONG=N, N from 1 to WRONG_CALLS, calls.c, window.c,
+/* wrong.h - the calls with one mistake each, to test the tests: built with -DWRONG=N, N from 1 to WRONG_CALLS, calls.c, forms.c, window.c,
  * dropping.c or garbage.c must fail. kit/check tries each. Read by tests.h; after it the tests' calls are the wrong ones. */
 #ifndef WRONG_H
 #define WRONG_H
-#define WRONG_CALLS 50
+#define WRONG_CALLS 65
 
 /* What was lent, before a call. */
-static uint8_t wrong_block[IBZ_BLOCK_LENGTH], wrong_memory[65536], wrong_journal[65536];
+static uint8_t wrong_block[IBZ_BLOCK_LENGTH], wrong_memory[65536], wrong_journal[65536], wrong_target[65536];
 
 /* The calls that a mistake of both manners is put upon. */
 typedef struct ibz_step_answer step_call(uint8_t *, size_t, uint32_t, uint32_t, uint8_t *, size_t, uint32_t, uint8_t, uint8_t *, size_t,
                                          size_t);
 typedef struct ibz_run_answer run_call(uint8_t *, size_t, uint32_t, uint32_t, uint8_t *, size_t, uint32_t, uint32_t, uint8_t *, size_t,
                                        size_t);
+typedef struct ibz_form_answer form_call(const uint8_t *, size_t, uint8_t *, size_t);
 
 static inline int wrong_window(uint32_t lo, uint32_t hi, size_t memory_length) { return lo > hi || hi > memory_length; }
 
@@ -146,6 +147,87 @@ static inline struct ibz_back_answer wrong_take_back(uint8_t *block, size_t bloc
   return a;
 }
 
+/* Where the old bytes of the last run of form 2 stand, if there are two or more and each is below 128: their count, else 0. */
+static inline size_t wrong_run_of(const uint8_t *two, size_t length, size_t *from) {
+  if (length < 6 || two[length - 1] == 0) return 0;
+  const size_t n = two[length - 3]; /* below the counts of runs and of slots */
+  *from = length - 4;
+  while (*from > 0 && two[*from] >= 128) --*from; /* its first address */
+  if (n < 2 || *from < n) return 0;
+  for (size_t i = 0; i < n; i++)
+    if (two[--*from] >= 128) return 0;
+  return n;
+}
+
+/* A conversion that makes what it made undone, and is refused. */
+static inline struct ibz_form_answer wrong_refusal(uint32_t number, uint8_t *target, size_t length) {
+  const struct ibz_form_answer a = {number, 0};
+  memcpy(target, wrong_target, length);
+  return a;
+}
+
+static inline struct ibz_form_answer wrong_form(form_call *call, const uint8_t *journal, size_t journal_length, uint8_t *target,
+                                                size_t target_length) {
+  static uint8_t room[5 * sizeof wrong_journal];
+  const int looks = target_length > 0 && target_length <= sizeof wrong_target && journal_length > 0 && journal_length <= sizeof wrong_journal;
+  if (looks) memcpy(wrong_target, target, target_length);
+  struct ibz_form_answer a = call(journal, journal_length, target, target_length);
+  if (WRONG == 51 && a.number == IBZ_DONE) a.length++;
+  if (WRONG == 52 && a.number == IBZ_BAD_RECORD && target_length < journal_length) a.number = IBZ_TARGET_SHORT; /* 11 before 8 */
+  if (WRONG == 53 && a.number == IBZ_BAD_RECORD && target_length > 0) target[0] ^= 1; /* refused, and the target is altered */
+  if (WRONG == 54 && a.number == IBZ_TARGET_SHORT && looks) { /* refused, and as much is written as finds room */
+    call(journal, journal_length, room, sizeof room);
+    memcpy(target, room, target_length);
+  }
+  if (WRONG == 55 && a.number == IBZ_TARGET_SHORT && looks) a.length = call(journal, journal_length, room, sizeof room).length;
+  if (WRONG == 56 && a.number == IBZ_DONE && a.length < target_length) target[a.length] ^= 1; /* a byte past the answer */
+  if (WRONG == 57 && a.number == IBZ_DONE && a.length == target_length && looks) /* what just finds room is refused */
+    return wrong_refusal(IBZ_TARGET_SHORT, target, target_length);
+  if (WRONG == 58 && journal_length == 0) a.number = IBZ_BAD_RECORD; /* an empty journal is refused */
+  if (WRONG == 59 && a.number == IBZ_BAD_RECORD) /* the oldest bytes that are no record are left out */
+    for (size_t cut = 1; cut < journal_length && cut < 64 && a.number == IBZ_BAD_RECORD; cut++)
+      a = call(journal + cut, journal_length - cut, target, target_length);
+  if (WRONG == 60 && journal_length > 0) { /* a byte before the journal is read */
+    const volatile size_t one = 1; /* else a compiler may see it, and say so */
+    const volatile uint8_t *before = journal - one;
+    (void)*before;
+  }
+  return a;
+}
+
+static inline struct ibz_form_answer wrong_to_form_two(const uint8_t *journal, size_t journal_length, uint8_t *target,
+                                                       size_t target_length) {
+  struct ibz_form_answer a = wrong_form(ibz_to_form_two, journal, journal_length, target, target_length);
+  size_t from, n;
+  if (WRONG == 61 && a.number == IBZ_DONE && target_length >= journal_length) { /* form 1 as it is */
+    memcpy(target, journal, journal_length);
+    a.length = journal_length;
+  }
+  if (WRONG == 62 && a.number == IBZ_DONE && (n = wrong_run_of(target, a.length, &from)) > 0) { /* old bytes in another order */
+    const uint8_t first = target[from];
+    target[from] = target[from + n - 1];
+    target[from + n - 1] = first;
+  }
+  if (WRONG == 63 && a.number == IBZ_DONE && target_length <= sizeof wrong_target) /* the last address is taken for one too many */
+    for (size_t i = 0; i + 4 <= journal_length; i++)
+      if (memcmp(journal + i, "\x07\xFF\xFF\xFF", 4) == 0) return wrong_refusal(IBZ_BAD_RECORD, target, target_length);
+  return a;
+}
+
+static inline struct ibz_form_answer wrong_to_form_one(const uint8_t *journal, size_t journal_length, uint8_t *target,
+                                                       size_t target_length) {
+  struct ibz_form_answer a = wrong_form(ibz_to_form_one, journal, journal_length, target, target_length);
+  size_t from;
+  if (WRONG == 64 && a.number == IBZ_DONE && target_length <= sizeof wrong_target && wrong_run_of(journal, journal_length, &from) > 0)
+    return wrong_refusal(IBZ_BAD_RECORD, target, target_length); /* runs of one byte only */
+  if (WRONG == 65 && a.number == IBZ_BAD_RECORD && journal_length >= 8 && journal_length <= sizeof wrong_journal) { /* runs that touch */
+    memcpy(wrong_journal, journal, journal_length);
+    wrong_journal[journal_length - 4]++; /* the last one at the next address */
+    a = ibz_to_form_one(wrong_journal, journal_length, target, target_length);
+  }
+  return a;
+}
+
 #define ibz_reset wrong_reset
 #define ibz_step wrong_step
 #define ibz_run wrong_run
@@ -154,4 +236,6 @@ static inline struct ibz_back_answer wrong_take_back(uint8_t *block, size_t bloc
 #define ibz_undo wrong_undo
 #define ibz_try wrong_try
 #define ibz_take_back wrong_take_back
+#define ibz_to_form_two wrong_to_form_two
+#define ibz_to_form_one wrong_to_form_one
 #endif

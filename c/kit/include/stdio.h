@@ -13,5 +13,6 @@ FILE *fopen(const char *, const char *);
 int fclose(FILE *);
 int ferror(FILE *);
 size_t fread(void *, size_t, size_t, FILE *);
+size_t fwrite(const void *, size_t, size_t, FILE *);
 char *fgets(char *, int, FILE *);
 #endif
