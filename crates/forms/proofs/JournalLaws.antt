@@ -1,13 +1,14 @@
 -- JournalLaws.antt - a whole journal in either form: it reads as what it was made of, and comes back byte for byte through the other form.
 -- * rows-of-journal, journal-of-rows: a journal of well-shaped records, and no other, reads as them.
 -- * convert-unique; convert-cases: a conversion is one of three things.   * there-and-back, back-when-done: the way back.
+-- * never-short-to-two, never-short-to-one: targets that are always long enough.
 -- Speaks of: rows-in and convert of specs/Forms.antt.  Assumes nothing.  Source: [K8].
-use Prim.Native.Nat.{ℕ, _+_, _≤_, _<_}
+use Prim.Native.Nat.{ℕ, _+_, _*_, _≤_, _<_}
 use mathlib.Core.Path.{_≡_, refl, sym, ap, _∙_}
 use mathlib.Core.Bool.{Bool, true, false}
-use mathlib.Core.List.{List, [], _++_, append-nil, reverse, reverse-reverse}
+use mathlib.Core.List.{List, [], _∷_, _++_, append-nil, reverse, reverse-reverse}
 use native.Mathlib.Omega.{arith}
-use lib.ListN.{length, take, drop}
+use lib.ListN.{length, take, drop, length-append}
 use lib.Seq.{take-at}
 use lib.Dec.{leb}
 use borrow.Author.Tests.{le-leb, lt-leb, leb-true, leb-false}
@@ -18,7 +19,9 @@ use Rattle.numbers.proofs.NumberLaws.{Bytes}
 use Rattle.oldest.specs.Room.{Row, Way, rows, torn, read-rows}
 use Rattle.oldest.proofs.RowLaws.{AllGood, older-when-read, all-read}
 use Rattle.oldest.proofs.OctetLaws.{bytes-of-back}
+use Rattle.runs.proofs.GrowthLaws.{two-at-most, one-at-most}
 use Rattle.forms.specs.declared.Form.{Form}
+use Rattle.forms.specs.declared.Form.the-variants.{One, Two}
 use Rattle.forms.specs.declared.FormAnswer.{FormAnswer}
 use Rattle.forms.specs.Forms.{other, record-in, read-in, journal-in, rows-in, not-shaped, too-short, FormCall, refused, put-whole, convert-rows, convert}
 use Rattle.forms.specs.Promises.{ConvertPromise}
@@ -113,3 +116,42 @@ pub back-when-done : (from : Form) (j t u : List ℕ) → Bytes j → convert fr
 back-when-done from j t u b e room =
     let w = shaped-when-done from j t e in
     there-and-back from j t u (w .0) b (w .1) (w .2) room
+
+-- ---- targets that are always long enough
+module _ (rs : List Row) (g : AllGood Addresses rs) where
+  pub two-at-most-in-all : 2 * length (journal-in Two rs) ≤ 3 * length (journal-in One rs)
+  two-at-most-in-all = go rs g
+    where
+      go : (xs : List Row) → AllGood Addresses xs → 2 * length (journal-in Two xs) ≤ 3 * length (journal-in One xs)
+      go [] h = omega arith
+      go (x ∷ xs) h =
+          omega (arith, go xs (h .1), two-at-most x (h .0), length-append (record-in Two x) (journal-in Two xs), length-append (record-in One x) (journal-in One xs))
+
+  pub one-at-most-in-all : length (journal-in One rs) ≤ 5 * length (journal-in Two rs)
+  one-at-most-in-all = go rs g
+    where
+      go : (xs : List Row) → AllGood Addresses xs → length (journal-in One xs) ≤ 5 * length (journal-in Two xs)
+      go [] h = omega arith
+      go (x ∷ xs) h =
+          omega (arith, go xs (h .1), one-at-most x (h .0), length-append (record-in Two x) (journal-in Two xs), length-append (record-in One x) (journal-in One xs))
+
+-- half again the journal's length for form 2, five times for form 1: then 11 is not given
+pub never-short-to-two : (j t : List ℕ) → Bytes j → 3 * length j ≤ 2 * length t + 1 → convert One j t .a .number ≡ too-short → ⊥
+never-short-to-two j t b room e = go (convert One j t) (convert-cases One j t) e
+  where
+    go : (c : FormCall) → Outcome One j t c → c .a .number ≡ too-short → ⊥
+    go c (not-well-shaped q) z = omega (arith, z)
+    go c (short rs q h) z =
+        let w = journal-of-rows One j rs q b in
+        omega (arith, h, room, ap length (w .0), two-at-most-in-all rs (w .1))
+    go c (done rs q h) z = omega (arith, z)
+
+pub never-short-to-one : (j t : List ℕ) → Bytes j → 5 * length j ≤ length t → convert Two j t .a .number ≡ too-short → ⊥
+never-short-to-one j t b room e = go (convert Two j t) (convert-cases Two j t) e
+  where
+    go : (c : FormCall) → Outcome Two j t c → c .a .number ≡ too-short → ⊥
+    go c (not-well-shaped q) z = omega (arith, z)
+    go c (short rs q h) z =
+        let w = journal-of-rows Two j rs q b in
+        omega (arith, h, room, ap length (w .0), one-at-most-in-all rs (w .1))
+    go c (done rs q h) z = omega (arith, z)
