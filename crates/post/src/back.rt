@@ -1,8 +1,6 @@
 // back.rt - the way back through a file, from its end to place 0, a record at a time.
 // Means: nothing; proved safe.
 // Uses: forms, record, runs, telling.  Source: [K8].
-ghost use Prim.Native.Nat.{_≤_};
-ghost use lib.ListN.{length};
 use crate::telling;
 use forms::Form;
 use forms::read_in;
