@@ -28,7 +28,7 @@ fn write_whole(target: &[u8], n: usize) {
     if target.len() < n {
         return;
     }
-    if !io::write_all(STDOUT_FILENO, &target[..n]) {
+    if !io::write_all(STDOUT_FILENO, &target[0..n]) {
         complaints::not_written();
     }
 }
