@@ -61,6 +61,14 @@ fn is_none(list: &[u8]) -> bool {
     false
 }
 
+// Puts the bytes that a field spells, which are as many as there is room; a hyphen is none.
+pub fn put_all(spelled: &[u8], to: &mut [u8]) -> bool {
+    if is_none(spelled) {
+        return to.len() == 0;
+    }
+    put_bytes(spelled, to, 0, false)
+}
+
 // Puts, or clears, every run of a list.
 pub fn put_runs(runs: &[u8], to: &mut [u8], clear: bool) -> bool {
     if is_none(runs) {

@@ -65,6 +65,11 @@ pub fn piece(text: &[u8], mark: u8, k: usize) -> &[u8] {
     &text[from..to]
 }
 
+// Field k of a line, counted from 0: one space parts the fields.
+pub fn field(text: &[u8], k: usize) -> &[u8] {
+    piece(text, b' ', k)
+}
+
 // The value of a digit of base 16, and 16 for any other byte.
 pub fn digit(c: u8) -> u32
     ensures { λ r. ⌜ r ≤ 16 ⌝ }

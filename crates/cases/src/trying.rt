@@ -9,6 +9,7 @@ use crate::setting::put_runs;
 use crate::setting::put_slots;
 use crate::text::NO_NUMBER;
 use crate::text::decimal;
+use crate::text::field;
 use crate::text::marks;
 use crate::text::number;
 use crate::text::piece;
@@ -33,11 +34,6 @@ const SPACES_WITH_CLOCKS: usize = 10;
 const SPACES_WITH_UNDO: usize = 13;
 
 const SPACES_WITH_BOTH: usize = 14;
-
-// Field k of a line, counted from 0.
-fn field(text: &[u8], k: usize) -> &[u8] {
-    piece(text, b' ', k)
-}
 
 // The last field of a line.
 fn last_field(text: &[u8]) -> &[u8] {

@@ -5,17 +5,18 @@ ghost use mathlib.Core.Path.{_≡_};
 ghost use Rattle.compare.specs.Verdict.{TellsAgrees};
 use cases::lines::NO_MORE;
 use cases::lines::Reading;
-use cases::setting::put_bytes;
+use cases::setting::put_all;
+use cases::tally;
+use cases::tally::Tally;
 use cases::text::NO_NUMBER;
 use cases::text::decimal;
+use cases::text::field;
 use cases::text::marks;
 use cases::text::number;
-use cases::text::piece;
 use compare::same;
+use compare::verdicts::AGREES;
+use compare::verdicts::SKIPPED;
 use libc::STDOUT_FILENO;
-
-// how many of the cases that differ are named
-const NAMED: u64 = 200;
 
 // spaces of a line that is a case
 const SPACES: usize = 7;
@@ -37,11 +38,7 @@ const DROPPED: usize = 6;
 
 const AFTER: usize = 7;
 
-// what a case is found to be; of those that differ, by what
-const AGREES: u32 = 0;
-
-const SKIPPED: u32 = 1;
-
+// what a case that differs is found to differ by
 const OTHER_NUMBER: u32 = 2;
 
 const OTHER_MARK: u32 = 3;
@@ -51,12 +48,6 @@ const OTHER_MOVED: u32 = 4;
 const OTHER_DROPPED: u32 = 5;
 
 const OTHER_JOURNAL: u32 = 6;
-
-struct Tally {
-    agree: u64,
-    differ: u64,
-    skipped: u64,
-}
 
 struct Progress {
     reading: Reading,
@@ -69,19 +60,6 @@ struct Answer {
     mark: u64,
     moved: u64,
     dropped: u64,
-}
-
-// Field k of a line, counted from 0.
-fn field(text: &[u8], k: usize) -> &[u8] {
-    piece(text, b' ', k)
-}
-
-// Puts the bytes that a field spells, which are as many as there is room; an empty journal is a hyphen.
-fn put_journal(spelled: &[u8], to: &mut [u8]) -> bool {
-    if same(spelled, b"-") {
-        return to.len() == 0;
-    }
-    put_bytes(spelled, to, 0, false)
 }
 
 // The answer that a line says.
@@ -137,10 +115,10 @@ fn compare_room(text: &[u8], journal: &mut [u8], wanted: &[u8], mark: usize, len
 
 // The same, on two journals that are as long as the line spells them.
 fn on_journals(text: &[u8], journal: &mut [u8], wanted: &mut [u8]) -> u32 {
-    if !put_journal(field(text, BEFORE), journal) {
+    if !put_all(field(text, BEFORE), journal) {
         return SKIPPED;
     }
-    if !put_journal(field(text, AFTER), wanted) {
+    if !put_all(field(text, AFTER), wanted) {
         return SKIPPED;
     }
     let len = number(field(text, LENGTH));
@@ -182,20 +160,6 @@ fn try_line(line: &[u8], r: Reading, journal: &mut [u8], wanted: &mut [u8]) -> u
     try_case(&line[0..n], journal, wanted)
 }
 
-fn one_more(n: u64) -> u64 {
-    std::num::wrapping_add_u64(n, 1)
-}
-
-fn counted(t: Tally, found: u32) -> Tally {
-    let mut next = t;
-    match found {
-        AGREES => next.agree = one_more(t.agree),
-        SKIPPED => next.skipped = one_more(t.skipped),
-        _ => next.differ = one_more(t.differ),
-    }
-    next
-}
-
 fn write_reason(found: u32) -> bool {
     match found {
         OTHER_NUMBER => io::write_all(STDOUT_FILENO, b": number\n"),
@@ -208,18 +172,11 @@ fn write_reason(found: u32) -> bool {
 
 // Names a case that differs, if it is among the first.
 fn report(found: u32, before: Tally, line: u64) {
-    if found == AGREES {
-        return;
+    if tally::is_named(before, found) {
+        io::write_all(STDOUT_FILENO, b"line ");
+        io::print_decimal(STDOUT_FILENO, line);
+        write_reason(found);
     }
-    if found == SKIPPED {
-        return;
-    }
-    if NAMED <= before.differ {
-        return;
-    }
-    io::write_all(STDOUT_FILENO, b"line ");
-    io::print_decimal(STDOUT_FILENO, line);
-    write_reason(found);
 }
 
 fn next_case(
@@ -230,26 +187,19 @@ fn next_case(
     wanted: &mut [u8],
 ) -> Progress {
     let reading = cases::lines::next_line(p.reading, chunk, line);
-    let tally = p.tally;
+    let so_far = p.tally;
     if reading.state == NO_MORE {
-        return Progress { reading, tally };
+        return Progress {
+            reading,
+            tally: so_far,
+        };
     }
     let found = try_line(line, reading, journal, wanted);
-    report(found, tally, reading.number);
+    report(found, so_far, reading.number);
     Progress {
         reading,
-        tally: counted(tally, found),
+        tally: tally::counted(so_far, found),
     }
-}
-
-fn write_tally(t: Tally) {
-    io::write_all(STDOUT_FILENO, b"agree ");
-    io::print_decimal(STDOUT_FILENO, t.agree);
-    io::write_all(STDOUT_FILENO, b", differ ");
-    io::print_decimal(STDOUT_FILENO, t.differ);
-    io::write_all(STDOUT_FILENO, b", skipped ");
-    io::print_decimal(STDOUT_FILENO, t.skipped);
-    io::write_all(STDOUT_FILENO, b"\n");
 }
 
 fn try_all(
@@ -260,18 +210,14 @@ fn try_all(
 ) {
     let mut p = Progress {
         reading: cases::lines::start(),
-        tally: Tally {
-            agree: 0,
-            differ: 0,
-            skipped: 0,
-        },
+        tally: tally::nothing(),
     };
     let mut turns = u64::MAX;
     while turns > 0 && p.reading.state != NO_MORE {
         p = next_case(p, chunk, line, journal, wanted);
         turns -= 1;
     }
-    write_tally(p.tally);
+    tally::write(p.tally);
 }
 
 fn main() {

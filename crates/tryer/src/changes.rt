@@ -1,27 +1,27 @@
 // changes.rt - what a try changed: slots by name, memory as runs of neighbouring addresses, each before and after.
 // Means: nothing; proved safe.
-// Uses: codes, bus, compare, ending, names, printing.  Source: [ours].
+// Uses: codes, bus, compare, console, ending.  Source: [ours].
 use crate::ending::Frame;
-use crate::names;
-use crate::printing::byte;
-use crate::printing::counted;
-use crate::printing::decimal;
-use crate::printing::hex;
-use crate::printing::place;
-use crate::printing::text;
 use bus::Window;
 use codes::SLOTS;
+use console::byte;
+use console::counted;
+use console::decimal;
+use console::place;
+use console::slots;
+use console::text;
 
 // of a longer run so many bytes are shown
 const SHOWN: usize = 16;
 
 // ---- slots
 
-fn tell_value(k: usize, v: u32) {
+// After a slot's name, so that values stand below each other.
+fn space_after(k: usize) {
     match k {
-        codes::SR => hex(v as u64, 4),
-        codes::MODE => names::mode(v),
-        _ => hex(v as u64, 8),
+        codes::USP | codes::SSP => text(b"  "),
+        codes::MODE => text(b" "),
+        _ => text(b"   "),
     }
 }
 
@@ -30,11 +30,11 @@ fn tell_slot(k: usize, old: u32, new: u32) {
         return;
     }
     text(b"  ");
-    names::slot(k);
-    text(b" ");
-    tell_value(k, old);
+    slots::name(k);
+    space_after(k);
+    slots::value(k, old);
     text(b" -> ");
-    tell_value(k, new);
+    slots::value(k, new);
     text(b"\n");
 }
 

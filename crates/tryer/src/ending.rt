@@ -1,13 +1,13 @@
 // ending.rt - how many steps a try took and why it ended; of an exception what its frame says.
 // Means: nothing; proved safe.
-// Uses: codes, bits, tries, names, printing.  Source: [K7]; the frames are those of [003 4.3.4] and [003 4.4.9.1], the function codes of [003 4-1].
+// Uses: codes, bits, tries, console, names.  Source: [K7]; the frames are those of [003 4.3.4] and [003 4.4.9.1], the function codes of [003 4-1].
 use crate::names;
-use crate::printing::address;
-use crate::printing::counted;
-use crate::printing::decimal;
-use crate::printing::hex;
-use crate::printing::text;
 use codes::SLOTS;
+use console::address;
+use console::counted;
+use console::decimal;
+use console::hex;
+use console::text;
 use tries::TryAnswer;
 
 // Where an exception's frame lies, and its length: 0 where there is none.

@@ -1,6 +1,6 @@
 // main.rt - what a moderator runs on a stranger's pattern: it is tried in its window, what it did is told, and all is taken back.
 // Means: nothing; proved safe. What a try and taking it back are stands in specs/Tries.antt of the crate tries.
-// Uses: codes, bus, calls, machine, tries, compare, io, libc, os.  Source: [K7].
+// Uses: codes, bus, calls, machine, tries, compare, console, io, libc, os.  Source: [K7].
 //
 //     ./run tryer LO HI STEPS PC STACK < IMAGE
 //
@@ -12,18 +12,19 @@
 mod changes;
 mod ending;
 mod names;
-mod printing;
 mod words;
 
 use bus::Window;
 use calls::ResetAnswer;
 use changes::Bounds;
 use codes::SLOTS;
+use console::address;
+use console::complain;
+use console::counted;
+use console::decimal;
+use console::has_more;
+use console::text;
 use libc::STDIN_FILENO;
-use printing::address;
-use printing::counted;
-use printing::decimal;
-use printing::text;
 use tries::BackAnswer;
 use tries::TryAnswer;
 use words::MEMORY;
@@ -36,12 +37,6 @@ struct Asked {
     win: Window,
     old: Window,
     steps: u32,
-}
-
-// Whether standard input has a byte more.
-fn has_more() -> bool {
-    let mut more = [0u8; 1];
-    io::read_full(STDIN_FILENO, &mut more) != 0
 }
 
 // The start of a pattern, after a reset: user state, and no flags.
@@ -200,7 +195,7 @@ fn try_image(n: usize, w: Words, memory: &mut [u8; MEMORY]) {
 fn main() {
     let w = words::read();
     if !words::are_good(w) {
-        words::complain(
+        complain(
             b"usage: ./run tryer [LO HI STEPS PC STACK] < IMAGE; STEPS is in base 10, the others in base 16, - is the default\n",
         );
         return;
@@ -208,7 +203,7 @@ fn main() {
     let mut memory = [0u8; MEMORY];
     let n = io::read_full(STDIN_FILENO, &mut memory);
     if has_more() {
-        words::complain(b"tryer: the image has more than 65536 bytes\n");
+        complain(b"tryer: the image has more than 65536 bytes\n");
         return;
     }
     try_image(n, w, &mut memory);

@@ -1,8 +1,8 @@
-// names.rt - vectors, refusals, registers and modes by name, for a person.
+// names.rt - vectors and refusals by name, for a person.
 // Means: nothing; proved safe.
-// Uses: codes, printing.  Source: [003 4-2], [01 Calls, table], [K7].
-use crate::printing::decimal;
-use crate::printing::text;
+// Uses: codes, console.  Source: [003 4-2], [01 Calls, table], [K7].
+use console::decimal;
+use console::text;
 
 // The vectors below 12: those of the machine itself.
 fn low_vector(v: u32) {
@@ -62,33 +62,5 @@ pub fn refusal(number: u32) {
             b"the window is none: its start lies above its end, or its end above the memory's",
         ),
         _ => text(b"none that a try or an undo has"),
-    }
-}
-
-// D0 to D7, A0 to A6: a letter and a digit.
-fn lettered(letter: u8, k: usize) {
-    let digit = 48 + (k % 8) as u8;
-    let name = [letter, digit, b' ', b' '];
-    text(&name);
-}
-
-// A slot's name, four letters wide.
-pub fn slot(k: usize) {
-    match k {
-        0..=7 => lettered(b'D', k),
-        8..=14 => lettered(b'A', k),
-        codes::USP => text(b"USP "),
-        codes::SSP => text(b"SSP "),
-        codes::PC => text(b"PC  "),
-        codes::SR => text(b"SR  "),
-        _ => text(b"mode"),
-    }
-}
-
-pub fn mode(m: u32) {
-    match m {
-        codes::RUNNING => text(b"running"),
-        codes::STOPPED => text(b"stopped"),
-        _ => text(b"halted"),
     }
 }

@@ -1,7 +1,6 @@
 // words.rt - the words after the program's name: which addresses, steps, start and stack they ask.
 // Means: nothing; proved safe.
-// Uses: io, libc, os.  Source: [ours].
-use libc::STDERR_FILENO;
+// Uses: io, os.  Source: [ours].
 
 // how many bytes a memory has here, and the steps that are allowed where no word says it
 pub const MEMORY: usize = 65536;
@@ -111,10 +110,6 @@ pub fn are_good(w: Words) -> bool {
         && w.steps < NO_NUMBER
         && w.pc != NO_NUMBER
         && w.stack < NO_NUMBER
-}
-
-pub fn complain(what: &[u8]) {
-    io::write_all(STDERR_FILENO, what);
 }
 
 // The number of a word, with 32 bits.

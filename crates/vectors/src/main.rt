@@ -3,35 +3,15 @@
 // Uses: compare, cases, stack_limit, io, libc, os.  Source: [01 Set down and proved], crates/vectors/README.md.
 use cases::lines::NO_MORE;
 use cases::lines::Reading;
+use cases::tally;
+use cases::tally::Tally;
+use cases::text::field;
 use compare::verdicts;
 use libc::STDOUT_FILENO;
-
-// how many of the cases that differ are named
-const NAMED: u64 = 200;
-
-struct Tally {
-    agree: u64,
-    differ: u64,
-    skipped: u64,
-}
 
 struct Progress {
     reading: Reading,
     tally: Tally,
-}
-
-fn one_more(n: u64) -> u64 {
-    std::num::wrapping_add_u64(n, 1)
-}
-
-fn counted(t: Tally, found: u32) -> Tally {
-    let mut next = t;
-    match found {
-        verdicts::AGREES => next.agree = one_more(t.agree),
-        verdicts::SKIPPED => next.skipped = one_more(t.skipped),
-        _ => next.differ = one_more(t.differ),
-    }
-    next
 }
 
 fn write_reason(found: u32) -> bool {
@@ -53,29 +33,22 @@ fn write_reason(found: u32) -> bool {
 
 // Names a case that differs, if it is among the first.
 fn report(found: u32, before: Tally, number: u64, text: &[u8]) {
-    if found == verdicts::AGREES {
-        return;
+    if tally::is_named(before, found) {
+        io::write_all(STDOUT_FILENO, b"line ");
+        io::print_decimal(STDOUT_FILENO, number);
+        io::write_all(STDOUT_FILENO, b" ");
+        io::write_all(STDOUT_FILENO, field(text, 0));
+        write_reason(found);
     }
-    if found == verdicts::SKIPPED {
-        return;
-    }
-    if NAMED <= before.differ {
-        return;
-    }
-    io::write_all(STDOUT_FILENO, b"line ");
-    io::print_decimal(STDOUT_FILENO, number);
-    io::write_all(STDOUT_FILENO, b" ");
-    io::write_all(STDOUT_FILENO, cases::text::piece(text, b' ', 0));
-    write_reason(found);
 }
 
 fn reported(p: Progress, text: &[u8], found: u32) -> Progress {
     let reading = p.reading;
-    let tally = p.tally;
-    report(found, tally, reading.number, text);
+    let so_far = p.tally;
+    report(found, so_far, reading.number, text);
     Progress {
         reading,
-        tally: counted(tally, found),
+        tally: tally::counted(so_far, found),
     }
 }
 
@@ -128,8 +101,11 @@ fn large_case(p: Progress, line: &[u8]) -> Progress {
 
 fn read_line(p: Progress, chunk: &mut [u8], line: &mut [u8]) -> Progress {
     let reading = cases::lines::next_line(p.reading, chunk, line);
-    let tally = p.tally;
-    Progress { reading, tally }
+    let so_far = p.tally;
+    Progress {
+        reading,
+        tally: so_far,
+    }
 }
 
 // Tries the next 2 to the power of k lines. A compiler puts no large frame of another function into that of one that
@@ -166,23 +142,13 @@ fn write_tally(t: Tally) {
             b"skipped: memory above 65536 bytes, and no stack limit of 64 MiB or more is told\n",
         );
     }
-    io::write_all(STDOUT_FILENO, b"agree ");
-    io::print_decimal(STDOUT_FILENO, t.agree);
-    io::write_all(STDOUT_FILENO, b", differ ");
-    io::print_decimal(STDOUT_FILENO, t.differ);
-    io::write_all(STDOUT_FILENO, b", skipped ");
-    io::print_decimal(STDOUT_FILENO, t.skipped);
-    io::write_all(STDOUT_FILENO, b"\n");
+    tally::write(t);
 }
 
 fn try_all(chunk: &mut [u8; 65536], line: &mut [u8; 8192]) {
     let p = Progress {
         reading: cases::lines::start(),
-        tally: Tally {
-            agree: 0,
-            differ: 0,
-            skipped: 0,
-        },
+        tally: tally::nothing(),
     };
     let q = try_lines(40, stack_limit::is_large(), p, chunk, line);
     write_tally(q.tally);
