@@ -1,5 +1,5 @@
-# counting.sh - what `count`, `growth`, `full`, `movem` and `calls` share: a counter of x86-64 instructions; bench built, a step's and an undo's.
-# Means: nothing; read by the five (`. counting.sh`) after they set `here`, the folder of all of them.
+# counting.sh - what `count`, `growth`, `full`, `movem`, `forms` and `calls` share: a counter of x86-64 instructions; bench built, a step's and an undo's.
+# Means: nothing; read by the six (`. counting.sh`) after they set `here`, the folder of all of them.
 # Source: [ours].
 #
 # COUNTER=qemu counts by the plugin executed.c for qemu-user, on any machine; COUNTER=valgrind by callgrind, on x86-64,

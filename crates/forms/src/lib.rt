@@ -49,6 +49,7 @@ pub struct Space {
 }
 
 // The number, 0 or a refusal, and the length of the other form.
+#[repr(C)]
 pub struct FormAnswer {
     pub number: u32,
     pub length: usize,
