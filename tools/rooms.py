@@ -13,11 +13,7 @@ import sys
 
 def document():
     """The functions of docs/FORMAT.md."""
-    docs = pathlib.Path(__file__).resolve().parent.parent / "docs"
-    text = (docs / "FORMAT.md").read_text()
-    appendix = docs / "form2-appendix.md"  # until it stands in FORMAT.md
-    if appendix.exists():
-        text += appendix.read_text()
+    text = (pathlib.Path(__file__).resolve().parent.parent / "docs/FORMAT.md").read_text()
     names = {}
     for block in re.findall(r"```python\n(.*?)```", text, re.S):
         exec(block, names)
