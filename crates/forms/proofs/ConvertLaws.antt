@@ -1,6 +1,6 @@
 -- ConvertLaws.antt - a whole journal in the code: one law for each turn or return.
 -- Speaks of: ConvertedIs, SpaceIs and MeasuredIs of specs/Answers.antt, convert of specs/Forms.antt.  Assumes nothing.  Source: [K8].
-use Prim.Native.Nat.{ℕ, suc, _+_, _-_, _≤_, _<_}
+use Prim.Native.Nat.{ℕ, _+_, _-_, _≤_, _<_}
 use mathlib.Core.Path.{_≡_, refl, sym, ap, _∙_}
 use mathlib.Core.Bool.{Bool, true, false}
 use mathlib.Core.List.{List, [], _∷_, _++_, append-assoc}
@@ -45,7 +45,8 @@ pub other-fits : (form : Form) (j : List ℕ) (mark : ℕ) (r : Row) (t : List �
 other-fits form j mark r t inside octets e =
     longest-in (other form) r (form-puts form (back j mark) (r .slots) (r .bytes) t e (octets-back j octets mark inside) .1)
 
-pub put-taken : (out₀ bs out : List ℕ) (r : ℕ) → BytesPut out₀ 0 bs out r → length bs ≤ length out₀ → (r ≡ length bs) × (take r out ≡ bs) × (r ≤ length out)
+pub put-taken : (out₀ bs out : List ℕ) (r : ℕ) → BytesPut out₀ 0 bs out r → length bs ≤ length out₀
+    → (r ≡ length bs) × (take r out ≡ bs) × (r ≤ length out)
 put-taken out₀ bs out r w h =
     let e : r ≡ length bs = w .place ∙ zero-add (length bs) in
     let len : length out ≡ length out₀ = ap length (w .bytes) ∙ length-written out₀ 0 bs (omega arith) in
@@ -68,19 +69,25 @@ no-bool b p q = absurd (let z : _≡_ {A = ℕ} 0 1 = cc in omega arith)
 pub less-not : (s : Space) (n space taken : ℕ) → s .fits ≡ false → SpaceIs space taken s → SpaceIs space (n + taken) s
 less-not s n space taken e w = record { left = λ q. no-bool (s .fits) q e; short = λ q. let h = w .short q in omega arith }
 
-pub less-short : (s x : Space) (n space taken : ℕ) → s .fits ≡ true → s .left < n → x .fits ≡ false → SpaceIs space taken s → SpaceIs space (n + taken) x
+pub less-short : (s x : Space) (n space taken : ℕ) → s .fits ≡ true → s .left < n → x .fits ≡ false → SpaceIs space taken s
+    → SpaceIs space (n + taken) x
 less-short s x n space taken e h f w = record { left = λ q. no-bool (x .fits) q f; short = λ q. let l = w .left e in omega arith }
 
-pub less-fits : (s x : Space) (n space taken : ℕ) → s .fits ≡ true → n ≤ s .left → x .fits ≡ true → x .left ≡ s .left - n → SpaceIs space taken s → SpaceIs space (n + taken) x
+pub less-fits : (s x : Space) (n space taken : ℕ) → s .fits ≡ true → n ≤ s .left → x .fits ≡ true → x .left ≡ s .left - n → SpaceIs space taken s
+    → SpaceIs space (n + taken) x
 less-fits s x n space taken e h f g w = record { left = λ q. let l = w .left e in omega arith; short = λ q. no-bool (x .fits) f q }
 
 pub space-start : (space : ℕ) → SpaceIs space 0 (record { fits = true; left = space })
 space-start space = record { left = λ q. zero-add space; short = λ q. no-bool true refl q }
 
-pub space-more : (form : Form) (space len : ℕ) (r : Row) (acc : List Row) (s : Space) → len ≡ length (record-in form r) → SpaceIs space (len + length (journal-in form acc)) s
+pub space-more : (form : Form) (space len : ℕ) (r : Row) (acc : List Row) (s : Space) → len ≡ length (record-in form r)
+    → SpaceIs space (len + length (journal-in form acc)) s
     → SpaceIs space (length (journal-in form (r ∷ acc))) s
 space-more form space len r acc s e w =
-    let q : len + length (journal-in form acc) ≡ length (record-in form r ++ journal-in form acc) = omega (arith, length-append (record-in form r) (journal-in form acc)) in
+    let q : len + length (journal-in form acc) ≡ length (record-in form r ++ journal-in form acc) = omega (
+      arith,
+      length-append (record-in form r) (journal-in form acc),
+    ) in
     rw (← q) w
 
 -- ---- the way back through the journal: the records acc were read, and those below place e are left
@@ -121,7 +128,8 @@ module _ (form : Form) (j : List ℕ) (space : ℕ) (x : Measured) (t : Measured
   pub measured-short : x ≡ m.Short → MeasuredIs form j space m.Short
   measured-short q = rw q at t
 
-module _ (form : Form) (j : List ℕ) (space : ℕ) (rs : List Row) (s : Space) (e : rows-in form j ≡ rows rs) (w : SpaceIs space (length (journal-in (other form) rs)) s) where
+module _ (form : Form) (j : List ℕ) (space : ℕ) (rs : List Row) (s : Space) (e : rows-in form j ≡ rows rs)
+    (w : SpaceIs space (length (journal-in (other form) rs)) s) where
   pub measured-taken : s .fits ≡ true → MeasuredIs form j space (m.Fits (space - s .left))
   measured-taken f = let h = w .left f in (rs, e, omega arith, omega arith)
 
@@ -129,7 +137,8 @@ module _ (form : Form) (j : List ℕ) (space : ℕ) (rs : List Row) (s : Space) 
   measured-over f = (rs, e, w .short f)
 
 -- ---- writing from the end
-written-before : (l : List ℕ) (at : ℕ) (bs cs : List ℕ) → at + length bs + length cs ≤ length l → written (written l (at + length bs) cs) at bs ≡ written l at (bs ++ cs)
+written-before : (l : List ℕ) (at : ℕ) (bs cs : List ℕ) → at + length bs + length cs ≤ length l
+    → written (written l (at + length bs) cs) at bs ≡ written l at (bs ++ cs)
 written-before l at bs cs h =
     let m = at + length bs in
     let d = drop (m + length cs) l in
@@ -146,16 +155,24 @@ written-before l at bs cs h =
     ∙ ap (λ (k : ℕ). take at l ++ (bs ++ cs) ++ drop k l) place
 
 -- the next record has room below what is written
-pub room-below : (form : Form) (j : List ℕ) (rs : List Row) → ((k : ℕ) → getD j k 0 < 256) → (e : ℕ) (r : Row) (acc : List Row) → rows-in form j ≡ rows rs
+pub room-below : (form : Form) (j : List ℕ) (rs : List Row) → ((k : ℕ) → getD j k 0 < 256) → (e : ℕ) (r : Row) (acc : List Row)
+    → rows-in form j ≡ rows rs
     → Passed form j e (r ∷ acc) → length (record-in (other form) r) + length (journal-in (other form) acc) ≤ length (journal-in (other form) rs)
 room-below form j rs octets e r acc q p =
     let put = record-in (other form) in
-    let w = older-when-read (read-in form) (record-in form) Addresses (form-puts form) (p .fuel) (back j e) (r ∷ acc) rs (sym (p .way) ∙ q) (octets-back j octets e (p .inside)) in
+    let w = older-when-read (read-in form) (record-in form) Addresses (form-puts form) (p .fuel) (back j e) (r ∷ acc) rs (sym (p .way)
+    ∙ q) (octets-back j octets e (p .inside)) in
     let same : journal-in (other form) rs ≡ journal-in (other form) (w .0) ++ (put r ++ journal-in (other form) acc) =
     ap (journal-in (other form)) (w .1) ∙ rows-append put (w .0) (r ∷ acc) in
-    omega (arith, ap length same, length-append (journal-in (other form) (w .0)) (put r ++ journal-in (other form) acc), length-append (put r) (journal-in (other form) acc))
+    omega (
+      arith,
+      ap length same,
+      length-append (journal-in (other form) (w .0)) (put r ++ journal-in (other form) acc),
+      length-append (put r) (journal-in (other form) acc),
+    )
 
-pub copied : (t₀ t out : List ℕ) (p len : ℕ) (one acc : List ℕ) → len ≡ length one → take len out ≡ one → len ≤ p → t ≡ written t₀ p acc → p + length acc ≤ length t₀
+pub copied : (t₀ t out : List ℕ) (p len : ℕ) (one acc : List ℕ) → len ≡ length one → take len out ≡ one → len ≤ p → t ≡ written t₀ p acc
+    → p + length acc ≤ length t₀
     → written t (p - len) (take len out) ≡ written t₀ (p - len) (one ++ acc)
 copied t₀ t out p len one acc e q h w room =
     let place : p - len + length one ≡ p = omega arith in
@@ -170,8 +187,10 @@ never-torn form j rs e f = torn-not rs (sym f ∙ e)
 rows-same : (a b : List Row) → rows a ≡ rows b → a ≡ b
 rows-same a b e = cc
 
-pub written-all : (form : Form) (j t₀ t : List ℕ) (rs acc : List Row) (p : ℕ) → rows-in form j ≡ rows rs → rows-in form j ≡ rows acc → length (journal-in (other form) rs) ≤ length t₀
-    → p + length (journal-in (other form) acc) ≡ length (journal-in (other form) rs) → t ≡ written t₀ p (journal-in (other form) acc) → t ≡ convert form j t₀ .target
+pub written-all : (form : Form) (j t₀ t : List ℕ) (rs acc : List Row) (p : ℕ) → rows-in form j ≡ rows rs → rows-in form j ≡ rows acc
+    → length (journal-in (other form) rs) ≤ length t₀
+    → p + length (journal-in (other form) acc) ≡ length (journal-in (other form) rs) → t ≡ written t₀ p (journal-in (other form) acc)
+    → t ≡ convert form j t₀ .target
 written-all form j t₀ t rs acc p e f room place w =
     let same : acc ≡ rs = rows-same acc rs (sym f ∙ e) in
     let start : p ≡ 0 = omega (arith, place, ap (λ (l : List Row). length (journal-in (other form) l)) same) in

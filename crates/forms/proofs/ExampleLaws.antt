@@ -26,7 +26,8 @@ filled bytes = record { target = bytes; a = record { number = 0; length = length
 
 abbrev pub Hold : List BothForms → Type 0
 Hold [] = Unit {0}
-Hold (r ∷ rs) = (convert One (r .one) (blank (length (r .two))) ≡ filled (r .two)) × (convert Two (r .two) (blank (length (r .one))) ≡ filled (r .one)) × Hold rs
+Hold (r ∷ rs) = (convert One (r .one) (blank (length (r .two))) ≡ filled (r .two))
+    × (convert Two (r .two) (blank (length (r .one))) ≡ filled (r .one)) × Hold rs
 
 pub both-forms-hold : Hold both-forms
 unfolding number-bytes read-number back valid-value record-of read-record shaped-record record-two read-two shaped-two rows-in convert

@@ -4,7 +4,7 @@
 -- Speaks of: record-in and read-in of specs/Forms.antt.  Assumes nothing.  Source: [K8].
 use Prim.Native.Nat.{ℕ, _≤_}
 use mathlib.Core.Path.{_≡_, refl, sym, ap, _∙_}
-use mathlib.Core.List.{List, [], _++_, append-nil, reverse, reverse-reverse}
+use mathlib.Core.List.{List, [], append-nil, reverse, reverse-reverse}
 use native.Mathlib.Omega.{arith}
 use lib.ListN.{length}
 use lib.Seq.{take-length}

@@ -6,14 +6,13 @@
 use Prim.Native.Nat.{ℕ, _+_, _*_, _≤_, _<_}
 use mathlib.Core.Path.{_≡_, refl, sym, ap, _∙_}
 use mathlib.Core.Bool.{Bool, true, false}
-use mathlib.Core.List.{List, [], _∷_, _++_, append-nil, reverse, reverse-reverse}
+use mathlib.Core.List.{List, [], _∷_, append-nil, reverse, reverse-reverse}
 use native.Mathlib.Omega.{arith}
 use lib.ListN.{length, take, drop, length-append}
 use lib.Seq.{take-at}
 use lib.Dec.{leb}
 use borrow.Author.Tests.{le-leb, lt-leb, leb-true, leb-false}
 use Rattle.codes.specs.Codes.{Addresses}
-use Rattle.bits.specs.Bits.{pick}
 use Rattle.numbers.specs.Number.{back, written}
 use Rattle.numbers.proofs.NumberLaws.{Bytes}
 use Rattle.oldest.specs.Room.{Row, Way, rows, torn, read-rows}
@@ -23,7 +22,8 @@ use Rattle.runs.proofs.GrowthLaws.{two-at-most, one-at-most}
 use Rattle.forms.specs.declared.Form.{Form}
 use Rattle.forms.specs.declared.Form.the-variants.{One, Two}
 use Rattle.forms.specs.declared.FormAnswer.{FormAnswer}
-use Rattle.forms.specs.Forms.{other, record-in, read-in, journal-in, rows-in, not-shaped, too-short, FormCall, refused, put-whole, convert-rows, convert}
+use Rattle.forms.specs.Forms.{other, record-in, read-in, journal-in, rows-in, not-shaped}
+use Rattle.forms.specs.Forms.{too-short, FormCall, refused, convert}
 use Rattle.forms.specs.Promises.{ConvertPromise}
 use Rattle.forms.proofs.FormLaws.{form-reads, form-puts, other-of-other, back-whole}
 
@@ -32,12 +32,15 @@ pub rows-of-journal : (form : Form) (rs : List Row) → AllGood Addresses rs →
 unfolding rows-in
 rows-of-journal form rs g =
     let j = journal-in form rs in
-    ap (λ (s : List ℕ). read-rows (read-in form) (length j) s []) (back-whole j) ∙ all-read (read-in form) (record-in form) Addresses (form-reads form) rs g
+    ap (λ (s : List ℕ). read-rows (read-in form) (length j) s []) (back-whole j)
+    ∙ all-read (read-in form) (record-in form) Addresses (form-reads form) rs g
 
-pub journal-of-rows : (form : Form) (j : List ℕ) (rs : List Row) → rows-in form j ≡ rows rs → Bytes j → (j ≡ journal-in form rs) × AllGood Addresses rs
+pub journal-of-rows : (form : Form) (j : List ℕ) (rs : List Row) → rows-in form j ≡ rows rs → Bytes j
+    → (j ≡ journal-in form rs) × AllGood Addresses rs
 unfolding rows-in
 journal-of-rows form j rs e h =
-    let w = older-when-read (read-in form) (record-in form) Addresses (form-puts form) (length j) (back j (length j)) [] rs e (bytes-of-back j (length j) h (omega arith)) in
+    let w = older-when-read (read-in form) (record-in form) Addresses (form-puts form) (length j)
+    (back j (length j)) [] rs e (bytes-of-back j (length j) h (omega arith)) in
     let same : rs ≡ w .0 = w .1 ∙ append-nil (w .0) in
     (sym (reverse-reverse j) ∙ ap reverse (sym (back-whole j)) ∙ w .2 ∙ ap (journal-in form) (sym same), rw same (w .3))
 
@@ -66,14 +69,18 @@ module _ (from : Form) (j t : List ℕ) (rs : List Row) (e : rows-in from j ≡ 
   convert-short h = rw (e, lt-leb (length (journal-in (other from) rs)) (length t) h)
 
   pub convert-done : length (journal-in (other from) rs) ≤ length t
-      → convert from j t ≡ record { target = written t 0 (journal-in (other from) rs); a = record { number = 0; length = length (journal-in (other from) rs) } }
+      → convert from j t ≡ record {
+        target = written t 0 (journal-in (other from) rs);
+        a = record { number = 0; length = length (journal-in (other from) rs) };
+      }
   unfolding convert
   convert-done h = rw (e, le-leb (length (journal-in (other from) rs)) (length t) h)
 
 pub convert-cases : (from : Form) (j t : List ℕ) → Outcome from j t (convert from j t)
 convert-cases from j t = go (rows-in from j) refl
   where
-    fitting : (rs : List Row) → rows-in from j ≡ rows rs → (b : Bool) → leb (length (journal-in (other from) rs)) (length t) ≡ b → Outcome from j t (convert from j t)
+    fitting : (rs : List Row) → rows-in from j ≡ rows rs → (b : Bool) → leb (length (journal-in (other from) rs)) (length t) ≡ b
+        → Outcome from j t (convert from j t)
     fitting rs e true q = let h = leb-true (length (journal-in (other from) rs)) (length t) q in rw (convert-done from j t rs e h) (done rs e h)
     fitting rs e false q = let h = leb-false (length (journal-in (other from) rs)) (length t) q in rw (convert-short from j t rs e h) (short rs e h)
 
@@ -106,13 +113,15 @@ pub shaped-when-done : (from : Form) (j t : List ℕ) → convert from j t .a .n
     → (rs : List Row) × (rows-in from j ≡ rows rs) × (length (journal-in (other from) rs) ≤ length t)
 shaped-when-done from j t e = go (convert from j t) (convert-cases from j t) e
   where
-    go : (c : FormCall) → Outcome from j t c → c .a .number ≡ 0 → (rs : List Row) × (rows-in from j ≡ rows rs) × (length (journal-in (other from) rs) ≤ length t)
+    go : (c : FormCall) → Outcome from j t c → c .a .number ≡ 0
+        → (rs : List Row) × (rows-in from j ≡ rows rs) × (length (journal-in (other from) rs) ≤ length t)
     go c (not-well-shaped q) z = absurd (omega (arith, z))
     go c (short rs q h) z = absurd (omega (arith, z))
     go c (done rs q h) z = (rs, q, h)
 
 pub back-when-done : (from : Form) (j t u : List ℕ) → Bytes j → convert from j t .a .number ≡ 0 → length j ≤ length u
-    → convert (other from) (take (convert from j t .a .length) (convert from j t .target)) u ≡ record { target = written u 0 j; a = record { number = 0; length = length j } }
+    → convert (other from) (take (convert from j t .a .length) (convert from j t .target)) u
+    ≡ record { target = written u 0 j; a = record { number = 0; length = length j } }
 back-when-done from j t u b e room =
     let w = shaped-when-done from j t e in
     there-and-back from j t u (w .0) b (w .1) (w .2) room
@@ -125,7 +134,13 @@ module _ (rs : List Row) (g : AllGood Addresses rs) where
       go : (xs : List Row) → AllGood Addresses xs → 2 * length (journal-in Two xs) ≤ 3 * length (journal-in One xs)
       go [] h = omega arith
       go (x ∷ xs) h =
-          omega (arith, go xs (h .1), two-at-most x (h .0), length-append (record-in Two x) (journal-in Two xs), length-append (record-in One x) (journal-in One xs))
+          omega (
+            arith,
+            go xs (h .1),
+            two-at-most x (h .0),
+            length-append (record-in Two x) (journal-in Two xs),
+            length-append (record-in One x) (journal-in One xs),
+          )
 
   pub one-at-most-in-all : length (journal-in One rs) ≤ 5 * length (journal-in Two rs)
   one-at-most-in-all = go rs g
@@ -133,7 +148,13 @@ module _ (rs : List Row) (g : AllGood Addresses rs) where
       go : (xs : List Row) → AllGood Addresses xs → length (journal-in One xs) ≤ 5 * length (journal-in Two xs)
       go [] h = omega arith
       go (x ∷ xs) h =
-          omega (arith, go xs (h .1), one-at-most x (h .0), length-append (record-in Two x) (journal-in Two xs), length-append (record-in One x) (journal-in One xs))
+          omega (
+            arith,
+            go xs (h .1),
+            one-at-most x (h .0),
+            length-append (record-in Two x) (journal-in Two xs),
+            length-append (record-in One x) (journal-in One xs),
+          )
 
 -- half again the journal's length for form 2, five times for form 1: then 11 is not given
 pub never-short-to-two : (j t : List ℕ) → Bytes j → 3 * length j ≤ 2 * length t + 1 → convert One j t .a .number ≡ too-short → ⊥

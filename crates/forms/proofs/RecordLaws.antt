@@ -1,13 +1,13 @@
 -- RecordLaws.antt - one record in the code: the changes that are left to write; a record of either form as four parts; what was read.
 -- Speaks of: record-in and read-in of specs/Forms.antt, specs/Answers.antt.  Assumes nothing.  Source: [K8].
 use Prim.Native.Nat.{ℕ, _+_, _-_, _/_, _%_, _^_, _≤_, _<_}
-use mathlib.Core.Path.{_≡_, refl, ap, _∙_}
+use mathlib.Core.Path.{_≡_, ap, _∙_}
 use mathlib.Core.List.{List, [], _++_, append-assoc}
 use native.Mathlib.Omega.{arith}
 use lib.ListN.{length, getD}
 use Rattle.codes.specs.Codes.{Addresses}
 use Rattle.numbers.specs.Number.{number-bytes, back}
-use Rattle.record.specs.Change.{Change, changes-bytes, between, changes, record-of}
+use Rattle.record.specs.Change.{Change, changes-bytes, between, record-of}
 use Rattle.record.specs.declared.Put.{Put}
 use Rattle.undo.specs.Undo.{Record, shaped-record, RecordIs}
 use Rattle.undo.specs.declared.Last.{Last}
@@ -17,7 +17,6 @@ use Rattle.runs.specs.Two.{record-two}
 use Rattle.runs.specs.Answers.{LoggedIs, PartPut}
 use Rattle.runs.specs.declared.Logged.{Logged}
 use Rattle.runs.specs.declared.Logged.the-variants as log
-use Rattle.runs.proofs.PutLaws.{length-between}
 use Rattle.forms.specs.declared.Form.{Form}
 use Rattle.forms.specs.declared.Form.the-variants.{One, Two}
 use Rattle.forms.specs.Forms.{record-in, read-in}
@@ -25,7 +24,8 @@ use Rattle.forms.specs.Answers.{part-bytes, part-count}
 
 -- ---- the changes that are left
 pub changes-rest : (log : List ℕ) (k n : ℕ) → k < n → n ≤ length log
-    → changes-bytes (between k n log) ≡ number-bytes (getD log k 0 / 2 ^ 32) ++ (number-bytes (getD log k 0 % 2 ^ 32) ++ changes-bytes (between (k + 1) n log))
+    → changes-bytes (between k n log) ≡ number-bytes (getD log k 0 / 2 ^ 32)
+    ++ (number-bytes (getD log k 0 % 2 ^ 32) ++ changes-bytes (between (k + 1) n log))
 changes-rest log k n h l =
     ap changes-bytes (between-at log k n h l)
     ∙ append-assoc (number-bytes (getD log k 0 / 2 ^ 32)) (number-bytes (getD log k 0 % 2 ^ 32)) (changes-bytes (between (k + 1) n log))
@@ -35,7 +35,8 @@ changes-none log k n h l = ap changes-bytes (between-past log k n h l)
 
 -- ---- a record of either form: the slots, the memory's part, the two counts
 pub parts-of-record : (form : Form) (ss bs : List Change)
-    → record-in form (record { slots = ss; bytes = bs }) ≡ changes-bytes ss ++ (part-bytes form bs ++ (number-bytes (length ss) ++ number-bytes (part-count form bs)))
+    → record-in form (record { slots = ss; bytes = bs }) ≡ changes-bytes ss
+    ++ (part-bytes form bs ++ (number-bytes (length ss) ++ number-bytes (part-count form bs)))
 unfolding record-of record-two
 parts-of-record One ss bs = simp append-assoc
 parts-of-record Two ss bs = simp append-assoc
@@ -52,7 +53,8 @@ module _ (w : Record) (j : List ℕ) (mark : ℕ) (slots bytes : List ℕ) (x : 
   logged-as v q = rw q t
 
 -- ---- what reading a record of form 1 answered
-module _ (j : List ℕ) (mark : ℕ) (slots bytes : List ℕ) (x : Last) (t : RecordIs (shaped-record Addresses (back j mark)) Addresses j mark slots bytes x) where
+module _ (j : List ℕ) (mark : ℕ) (slots bytes : List ℕ) (x : Last)
+    (t : RecordIs (shaped-record Addresses (back j mark)) Addresses j mark slots bytes x) where
   pub one-nothing : x ≡ last.Nothing → LoggedIs (read-in One (back j mark)) j mark slots bytes log.Nothing
   one-nothing q = record-nothing (shaped-record Addresses (back j mark)) Addresses j mark slots bytes x t q
 
@@ -62,7 +64,8 @@ module _ (j : List ℕ) (mark : ℕ) (slots bytes : List ℕ) (x : Last) (t : Re
       (g .0, g .1, g .2, omega arith, g .3)
 
 -- ---- by the form
-pub logged-in : (form to : Form) (s j : List ℕ) (mark : ℕ) (slots bytes : List ℕ) (x : Logged) → form ≡ to → LoggedIs (read-in to s) j mark slots bytes x
+pub logged-in : (form to : Form) (s j : List ℕ) (mark : ℕ) (slots bytes : List ℕ) (x : Logged) → form ≡ to
+    → LoggedIs (read-in to s) j mark slots bytes x
     → LoggedIs (read-in form s) j mark slots bytes x
 logged-in form to s j mark slots bytes x e t = logged-as (read-in to s) j mark slots bytes x t (read-in form s) (ap (λ (f : Form). read-in f s) e)
 

@@ -63,7 +63,8 @@ refused n t = record { target = t; a = record { number = n; length = 0 } }
 
 -- These bytes at the start of the target, whose bytes past them stay, if it has room for them. [K8]
 abbrev pub put-whole : List ℕ → List ℕ → FormCall
-put-whole b t = pick (leb (length b) (length t)) (record { target = written t 0 b; a = record { number = 0; length = length b } }) (refused too-short t)
+put-whole b t = pick (leb (length b) (length t)) (record { target = written t 0 b; a = record { number = 0; length = length b } })
+    (refused too-short t)
 
 -- The records in the form that is asked for: 8 is told before 11. [K8]
 abbrev pub convert-rows : Form → List ℕ → Way → FormCall

@@ -1,7 +1,7 @@
 -- RowLaws.antt - a record that was read well shaped reads the same wherever its bytes stand; so the records are known after a drop or a step.
 -- Speaks of: read-rows and rows-of of specs/Room.antt, shaped-record of undo.
 -- Assumes nothing.  Source: [K5].
-use Prim.Native.Nat.{ℕ, zero, suc, _+_, _-_, _*_, _^_, _≤_, _<_}
+use Prim.Native.Nat.{ℕ, zero, suc, _+_, _-_, _*_, _^_, _≤_}
 use mathlib.Core.Path.{_≡_, refl, sym, ap, _∙_}
 use mathlib.Core.Bool.{true}
 use mathlib.Core.List.{List, [], _∷_, _++_, append-assoc, append-nil, reverse, reverse-append, reverse-reverse}
@@ -164,7 +164,8 @@ module _ (read : List ℕ → Record) (put : Row → List ℕ) (len : ℕ) (read
       go [] h = absurd (omega arith)
       go (x ∷ l) h = refl
 
-  row-more : (f : ℕ) (r : Row) (s : List ℕ) (acc : List Row) → Good len r → read-rows read (suc f) (reverse (put r) ++ s) acc ≡ read-rows read f s (r ∷ acc)
+  row-more : (f : ℕ) (r : Row) (s : List ℕ) (acc : List Row) → Good len r
+      → read-rows read (suc f) (reverse (put r) ++ s) acc ≡ read-rows read f s (r ∷ acc)
   row-more f r s acc g =
       let w = reads r s g in
       some-left r s (w .1) (rows acc) (more-rows (read-rows read f) acc (read (reverse (put r) ++ s))) ∙ ap (more-rows (read-rows read f) acc) (w .0)
@@ -207,7 +208,13 @@ row-weight r =
     let front = changes-bytes (r .slots) ++ changes-bytes (r .bytes) in
     let slots = number-bytes (length (r .slots)) in
     let bytes = number-bytes (length (r .bytes)) in
-    omega (arith, length-append (front ++ slots) bytes, length-append front slots, number-bytes-some (length (r .slots)), number-bytes-some (length (r .bytes)))
+    omega (
+      arith,
+      length-append (front ++ slots) bytes,
+      length-append front slots,
+      number-bytes-some (length (r .slots)),
+      number-bytes-some (length (r .bytes)),
+    )
 
 pub rows-weight : (rs : List Row) → 2 * length rs ≤ length (rows-bytes rs)
 rows-weight [] = omega arith
@@ -220,7 +227,8 @@ pub rows-of-bytes : (len : ℕ) (j : List ℕ) (rs : List Row) → len ≤ 2 ^ 3
     → back j (length (rows-bytes rs)) ≡ reverse (rows-bytes rs) → rows-of len j (length (rows-bytes rs)) ≡ rows rs
 unfolding rows-of
 rows-of-bytes len j rs fits g e =
-    ap (λ (s : List ℕ). read-rows (shaped-record len) (length (rows-bytes rs)) s []) e ∙ all-read (shaped-record len) row-bytes len (record-reads len fits) rs g
+    ap (λ (s : List ℕ). read-rows (shaped-record len) (length (rows-bytes rs)) s []) e
+    ∙ all-read (shaped-record len) row-bytes len (record-reads len fits) rs g
 
 -- ---- known without reading again
 pub back-as-reverse : (l : List ℕ) (e : ℕ) → back l e ≡ reverse (take e l)
@@ -238,7 +246,8 @@ rows-after-room len j rs fits g room =
     let b = rows-bytes rs in
     let at : 0 + length b ≡ length b = zero-add (length b) in
     let stands : back (written j 0 b) (length b) ≡ reverse b =
-    ap (back (written j 0 b)) (sym at) ∙ back-written j 0 b (omega arith) ∙ ap (λ (x : List ℕ). reverse b ++ x) (back-none j) ∙ append-nil (reverse b) in
+    ap (back (written j 0 b)) (sym at) ∙ back-written j 0 b (omega arith) ∙ ap (λ (x : List ℕ). reverse b ++ x) (back-none j)
+    ∙ append-nil (reverse b) in
     rows-of-bytes len (written j 0 b) rs fits g stands
 
 pub rows-after-step : (len : ℕ) (j : List ℕ) (mark : ℕ) (rs : List Row) (r : Row) → len ≤ 2 ^ 32 → mark + length (row-bytes r) ≤ length j

@@ -2,7 +2,7 @@
 -- * two-at-most, one-at-most.
 -- Speaks of: record-two of specs/Two.antt, record-of of record, Good of oldest.  Assumes nothing.  Source: [K8].
 use Prim.Native.Nat.{ℕ, suc, _+_, _*_, _≤_, _<_}
-use mathlib.Core.Path.{_≡_, sym, ap, subst}
+use mathlib.Core.Path.{_≡_, ap}
 use mathlib.Core.List.{List, [], _∷_, _++_}
 use native.Mathlib.Omega.{arith}
 use lib.ListN.{length, length-append}
@@ -58,7 +58,8 @@ spread-at-most a (o ∷ os) h =
     )
 
 -- ---- all runs
-run-length : (r : Stretch) → length (run-bytes r) ≡ length (numbers-bytes (r .olds)) + length (number-bytes (r .first)) + length (number-bytes (length (r .olds)))
+run-length : (r : Stretch) → length (run-bytes r) ≡ length (numbers-bytes (r .olds)) + length (number-bytes (r .first)) + length
+    (number-bytes (length (r .olds)))
 run-length r =
     omega (
       arith,
@@ -66,7 +67,8 @@ run-length r =
       length-append (numbers-bytes (r .olds)) (number-bytes (r .first)),
     )
 
-flat-length : (r : Stretch) (rs : List Stretch) → length (changes-bytes (flat (r ∷ rs))) ≡ length (changes-bytes (spread (r .first) (r .olds))) + length (changes-bytes (flat rs))
+flat-length : (r : Stretch) (rs : List Stretch) → length (changes-bytes (flat (r ∷ rs)))
+    ≡ length (changes-bytes (spread (r .first) (r .olds))) + length (changes-bytes (flat rs))
 flat-length r rs =
     omega (
       arith,
@@ -74,7 +76,8 @@ flat-length r rs =
       length-append (changes-bytes (spread (r .first) (r .olds))) (changes-bytes (flat rs)),
     )
 
-runs-at-most : (lo : ℕ) (rs : List Stretch) → Spaced lo (suc Addresses) rs → total rs < 128 → length (runs-bytes rs) ≤ length (changes-bytes (flat rs)) + length rs
+runs-at-most : (lo : ℕ) (rs : List Stretch) → Spaced lo (suc Addresses) rs → total rs < 128
+    → length (runs-bytes rs) ≤ length (changes-bytes (flat rs)) + length rs
 runs-at-most lo [] s h = omega arith
 runs-at-most lo (r ∷ rs) s h =
     omega (

@@ -1,7 +1,7 @@
 -- LongestLaws.antt - how long a well-shaped record is at most, in form 1 and in form 2.
 -- * longest-one, longest-two: every one.
 -- Speaks of: record-of of record, record-two of specs/Two.antt, Good of oldest.  Source: [K8], [01 The journal].
-use Prim.Native.Nat.{ℕ, suc, _+_, _*_, _^_, _≤_, _<_}
+use Prim.Native.Nat.{ℕ, suc, _+_, _*_, _≤_, _<_}
 use mathlib.Core.Path.{_≡_}
 use mathlib.Core.Bool.{true}
 use mathlib.Core.List.{List, [], _∷_, _++_}

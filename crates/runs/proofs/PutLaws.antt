@@ -26,7 +26,8 @@ pub record Left (j₀ : List ℕ) (at : ℕ) (all : List ℕ) (j : List ℕ) (p 
 pub left-start : (j : List ℕ) (at : ℕ) (all rest : List ℕ) → rest ≡ all → Left j at all j at rest
 left-start j at all rest e = record { bytes = rw e; next = rw e; same = refl }
 
-module _ (j₀ : List ℕ) (at : ℕ) (all : List ℕ) (fits : at + length all ≤ length j₀) (j : List ℕ) (p : ℕ) (rest ch more : List ℕ) (split : rest ≡ ch ++ more) (left : Left j₀ at all j p rest) where
+module _ (j₀ : List ℕ) (at : ℕ) (all : List ℕ) (fits : at + length all ≤ length j₀) (j : List ℕ) (p : ℕ) (rest ch more : List ℕ) (split : rest
+    ≡ ch ++ more) (left : Left j₀ at all j p rest) where
   pub left-room : p + length ch ≤ length j
   left-room = omega (arith, left .next, left .same, ap length split, length-append ch more)
 
@@ -42,7 +43,8 @@ module _ (j₀ : List ℕ) (at : ℕ) (all : List ℕ) (fits : at + length all �
   pub left-put : (p′ : ℕ) (j′ : List ℕ) → BytesPut j p ch j′ p′ → Left j₀ at all j′ p′ more
   left-put p′ j′ b = left-step p′ j′ (b .place) (b .bytes)
 
-pub left-end : (j₀ : List ℕ) (at : ℕ) (all : List ℕ) (j : List ℕ) (p : ℕ) (rest : List ℕ) → rest ≡ [] → Left j₀ at all j p rest → BytesPut j₀ at all j p
+pub left-end : (j₀ : List ℕ) (at : ℕ) (all : List ℕ) (j : List ℕ) (p : ℕ) (rest : List ℕ) → rest ≡ [] → Left j₀ at all j p rest
+    → BytesPut j₀ at all j p
 left-end j₀ at all j p rest e left =
     let l : Left j₀ at all j p [] = rw e at left in
     record { place = omega (arith, l .next); bytes = sym (written-none j p) ∙ l .bytes }
@@ -68,7 +70,8 @@ between-split log i k n h l m =
 pub between-snoc : (log : List ℕ) (i k : ℕ) → i ≤ k → k < length log → between i (k + 1) log ≡ between i k log ++ unpack (getD log k 0) ∷ []
 between-snoc log i k h l =
     between-split log i k (k + 1) h (omega arith) (omega arith)
-    ∙ ap (λ (cs : List Change). between i k log ++ cs) (between-at log k (k + 1) (omega arith) (omega arith) ∙ ap (λ (cs : List Change). unpack (getD log k 0) ∷ cs) (between-none log (k + 1)))
+    ∙ ap (λ (cs : List Change). between i k log ++ cs) (between-at log k (k + 1) (omega arith) (omega arith)
+    ∙ ap (λ (cs : List Change). unpack (getD log k 0) ∷ cs) (between-none log (k + 1)))
 
 pub length-between : (log : List ℕ) (i k : ℕ) → k ≤ length log → length (between i k log) ≡ k - i
 length-between log i k l = length-map (slice i k log) unpack ∙ length-slice i k log l
@@ -86,7 +89,8 @@ straight-start log i h =
 olds-length : (cs : List Change) → length (olds cs) ≡ length cs
 olds-length cs = length-map cs (λ c. c .old)
 
-pub straight-more : (log : List ℕ) (i k : ℕ) → i ≤ k → k < length log → Straight log i k → getD log k 0 / 2 ^ 32 ≡ getD log i 0 / 2 ^ 32 + (k - i) → Straight log i (k + 1)
+pub straight-more : (log : List ℕ) (i k : ℕ) → i ≤ k → k < length log → Straight log i k → getD log k 0 / 2 ^ 32 ≡ getD log i 0 / 2 ^ 32 + (k - i)
+    → Straight log i (k + 1)
 straight-more log i k h l s e =
     let a = getD log i 0 / 2 ^ 32 in
     let o = getD log k 0 % 2 ^ 32 in
@@ -95,8 +99,10 @@ straight-more log i k h l s e =
     let place : getD log k 0 / 2 ^ 32 ≡ a + length os = rw n e in
     let last : unpack (getD log k 0) ≡ record { place = a + length os; old = o } = ap (λ (x : ℕ). record { place = x; old = o }) place in
     let new : between i (k + 1) log ≡ spread a (os ++ o ∷ []) =
-    between-snoc log i k h l ∙ ap (λ (cs : List Change). cs ++ unpack (getD log k 0) ∷ []) s ∙ ap (λ (c : Change). spread a os ++ c ∷ []) last ∙ sym (spread-append a os o) in
-    let list : olds (between i (k + 1) log) ≡ os ++ o ∷ [] = ap olds (between-snoc log i k h l) ∙ map-append (λ c. c .old) (between i k log) (unpack (getD log k 0) ∷ []) in
+    between-snoc log i k h l ∙ ap (λ (cs : List Change). cs ++ unpack (getD log k 0) ∷ []) s ∙ ap (λ (c : Change). spread a os ++ c ∷ []) last
+    ∙ sym (spread-append a os o) in
+    let list : olds (between i (k + 1) log) ≡ os ++ o ∷ [] = ap olds (between-snoc log i k h l)
+    ∙ map-append (λ c. c .old) (between i k log) (unpack (getD log k 0) ∷ []) in
     new ∙ ap (spread a) (sym list)
 
 gap-of : (e : ℕ) (c : Change) (cs : List Change) → (e ≡ c .place → ⊥) → Gap e (runs (c ∷ cs))
@@ -111,13 +117,15 @@ module _ (log : List ℕ) (i k n : ℕ) (h : i < k) (l : k ≤ n) (m : n ≤ len
   abbrev a : ℕ
   a = getD log i 0 / 2 ^ 32
 
-  ends : Gap (a + (k - i)) (runs (between k n log)) → runs (between i n log) ≡ record { first = a; olds = olds (between i k log) } ∷ runs (between k n log)
+  ends : Gap (a + (k - i)) (runs (between k n log)) → runs (between i n log) ≡ record { first = a; olds = olds (between i k log) }
+      ∷ runs (between k n log)
   ends g = go (olds (between i k log)) refl
     where
       size : length (olds (between i k log)) ≡ k - i
       size = olds-length (between i k log) ∙ length-between log i k (omega arith)
 
-      go : (os : List ℕ) → olds (between i k log) ≡ os → runs (between i n log) ≡ record { first = a; olds = olds (between i k log) } ∷ runs (between k n log)
+      go : (os : List ℕ) → olds (between i k log) ≡ os → runs (between i n log) ≡ record { first = a; olds = olds (between i k log) }
+          ∷ runs (between k n log)
       go [] q = absurd (omega (arith, size, ap length q))
       go (o ∷ os) q =
           let n₁ : suc (length os) ≡ k - i = sym (ap length q) ∙ size in
@@ -174,7 +182,8 @@ module _ (j₀ : List ℕ) (at : ℕ) (a b c d : List ℕ) (fits : at + length (
 
 -- ---- the parts of a run and of a record
 pub run-parts : (log : List ℕ) (i n : ℕ) → n ≤ length log
-    → run-bytes (record { first = getD log i 0 / 2 ^ 32; olds = olds (between i n log) }) ≡ numbers-bytes (olds (between i n log)) ++ (number-bytes (getD log i 0 / 2 ^ 32) ++ number-bytes (n - i))
+    → run-bytes (record { first = getD log i 0 / 2 ^ 32; olds = olds (between i n log) })
+    ≡ numbers-bytes (olds (between i n log)) ++ (number-bytes (getD log i 0 / 2 ^ 32) ++ number-bytes (n - i))
 run-parts log i n h =
     let e : length (olds (between i n log)) ≡ n - i = olds-length (between i n log) ∙ length-between log i n h in
     ap (λ (k : ℕ). numbers-bytes (olds (between i n log)) ++ number-bytes (getD log i 0 / 2 ^ 32) ++ number-bytes k) e
@@ -182,7 +191,8 @@ run-parts log i n h =
 
 -- ---- the runs that are left
 pub runs-rest : (log : List ℕ) (k n f : ℕ) → RunEnd log k n f
-    → runs-bytes (runs (between k n log)) ≡ run-bytes (record { first = getD log k 0 / 2 ^ 32; olds = olds (between k f log) }) ++ runs-bytes (runs (between f n log))
+    → runs-bytes (runs (between k n log)) ≡ run-bytes (record { first = getD log k 0 / 2 ^ 32; olds = olds (between k f log) })
+    ++ runs-bytes (runs (between f n log))
 runs-rest log k n f e = ap runs-bytes (e .run)
 
 pub runs-count : (log : List ℕ) (k n f : ℕ) → RunEnd log k n f → length (runs (between k n log)) ≡ suc (length (runs (between f n log)))

@@ -1,7 +1,7 @@
--- ReadRunLaws.antt - the laws of reading runs from the end: a law for each turn of the code; runs that are written read back; what reads is runs that were written.
--- States: runs-back, runs-of-read.
+-- ReadRunLaws.antt - reading runs from the end: runs that are written read back, and what reads is runs that were written.
+-- * runs-all, runs-of-read.   * old-step, run-step: one turn.
 -- Speaks of: read-olds and read-runs of specs/Runs.antt.  Assumes nothing.  Source: [K8].
-use Prim.Native.Nat.{ℕ, zero, suc, _+_, _-_, _*_, _^_, _≤_, _<_}
+use Prim.Native.Nat.{ℕ, zero, suc, _+_, _-_, _^_, _≤_, _<_}
 use mathlib.Core.Path.{_≡_, refl, sym, ap, _∙_}
 use mathlib.Core.Bool.{Bool, true, false, _&&_}
 use mathlib.Core.List.{List, [], _∷_, _++_, append-assoc, append-nil, reverse, reverse-append}
@@ -74,7 +74,8 @@ olds-back (o ∷ os) n a s acc b =
     ∙ old-step n a (reverse (number-bytes o) ++ s) (spread (a + suc n) os ++ acc) o s (read-of-number-bytes o s (omega (arith, b .0))) (b .0)
     ∙ ap (λ (x : ℕ). read-olds n a s (record { place = a + n; old = o } ∷ (spread x os ++ acc))) place
 
-olds-all : (os : List ℕ) (a : ℕ) (s : List ℕ) (acc : List Change) → Bytes os → read-olds (length os) a (reverse (numbers-bytes os) ++ s) acc ≡ parsed (spread a os ++ acc) s
+olds-all : (os : List ℕ) (a : ℕ) (s : List ℕ) (acc : List Change) → Bytes os
+    → read-olds (length os) a (reverse (numbers-bytes os) ++ s) acc ≡ parsed (spread a os ++ acc) s
 olds-all os a s acc b =
     ap (λ (k : ℕ). read-olds k a (reverse (numbers-bytes os) ++ s) acc) (sym (zero-add (length os)))
     ∙ olds-back os 0 a s acc b
@@ -88,12 +89,15 @@ below-lowest : (end lim : ℕ) (rs : List Stretch) → end < lim → Spaced (suc
 below-lowest end lim [] h s = h
 below-lowest end lim (r ∷ rs) h s = s .0
 
-reverse-run : (r : Stretch) (s : List ℕ) → reverse (run-bytes r) ++ s ≡ reverse (number-bytes (length (r .olds))) ++ (reverse (number-bytes (r .first)) ++ (reverse (numbers-bytes (r .olds)) ++ s))
+reverse-run : (r : Stretch) (s : List ℕ) → reverse (run-bytes r) ++ s
+    ≡ reverse (number-bytes (length (r .olds))) ++ (reverse (number-bytes (r .first)) ++ (reverse (numbers-bytes (r .olds)) ++ s))
 reverse-run r s = simp (reverse-append, append-assoc)
 
-pub runs-back : (rs : List Stretch) (lo lim n room : ℕ) (s : List ℕ) (acc : List Change) → Spaced lo lim rs → RunBytes rs → total rs ≤ room → lim ≤ 2 ^ 32
+pub runs-back : (rs : List Stretch) (lo lim n room : ℕ) (s : List ℕ) (acc : List Change) → Spaced lo lim rs → RunBytes rs → total rs ≤ room
+    → lim ≤ 2 ^ 32
     → read-runs (length rs + n) lim room (reverse (runs-bytes rs) ++ s) acc ≡ read-runs n (lowest lim rs) (room - total rs) s (flat rs ++ acc)
-runs-back [] lo lim n room s acc sp b few h = ap (λ (k : ℕ). read-runs k lim room s acc) (zero-add n) ∙ ap (λ (k : ℕ). read-runs n lim k s acc) (omega arith)
+runs-back [] lo lim n room s acc sp b few h = ap (λ (k : ℕ). read-runs k lim room s acc) (zero-add n)
+    ∙ ap (λ (k : ℕ). read-runs n lim k s acc) (omega arith)
 runs-back (r ∷ rs) lo lim n room s acc sp b few h =
     let m = length (r .olds) in
     let count : suc (length rs) + n ≡ length rs + suc n = omega arith in
@@ -101,13 +105,15 @@ runs-back (r ∷ rs) lo lim n room s acc sp b few h =
     rw (reverse-append (run-bytes r) (runs-bytes rs)) (append-assoc (reverse (runs-bytes rs)) (reverse (run-bytes r)) s) in
     let z₂ = reverse (numbers-bytes (r .olds)) ++ s in
     let z₁ = reverse (number-bytes (r .first)) ++ z₂ in
-    let e₁ : read-number (reverse (run-bytes r) ++ s) ≡ got m z₁ = ap read-number (reverse-run r s) ∙ read-of-number-bytes m z₁ (omega (arith, sp .2)) in
+    let e₁ : read-number (reverse (run-bytes r) ++ s) ≡ got m z₁ = ap read-number (reverse-run r s)
+    ∙ read-of-number-bytes m z₁ (omega (arith, sp .2)) in
     let e₂ : read-number z₁ ≡ got (r .first) z₂ = read-of-number-bytes (r .first) z₂ (omega (arith, sp .2)) in
     let left : room - total rs - m ≡ room - (m + total rs) = omega arith in
     ap (λ (k : ℕ). read-runs k lim room (reverse (runs-bytes (r ∷ rs)) ++ s) acc) count
     ∙ ap (λ (t : List ℕ). read-runs (length rs + suc n) lim room t acc) text
     ∙ runs-back rs (suc (r .first + m)) lim (suc n) room (reverse (run-bytes r) ++ s) acc (sp .3) (b .1) (omega arith) h
-    ∙ run-step n (lowest lim rs) (room - total rs) (reverse (run-bytes r) ++ s) (flat rs ++ acc) m z₁ (r .first) z₂ (spread (r .first) (r .olds) ++ (flat rs ++ acc)) s
+    ∙ run-step n (lowest lim rs) (room - total rs) (reverse (run-bytes r) ++ s)
+    (flat rs ++ acc) m z₁ (r .first) z₂ (spread (r .first) (r .olds) ++ (flat rs ++ acc)) s
     e₁ (sp .1) (omega arith) e₂ (below-lowest (r .first + m) lim rs (sp .2) (sp .3)) (olds-all (r .olds) (r .first) s (flat rs ++ acc) (b .0))
     ∙ ap (λ (l : List Change). read-runs n (r .first) (room - total rs - m) s l) (sym (append-assoc (spread (r .first) (r .olds)) (flat rs) acc))
     ∙ ap (λ (k : ℕ). read-runs n (r .first) k s (spread (r .first) (r .olds) ++ flat rs ++ acc)) left
@@ -123,12 +129,14 @@ runs-all rs lim room s sp b few h =
 abbrev OldsRead : ℕ → ℕ → List ℕ → List Change → List Change → List ℕ → Type 0
 OldsRead n a s acc cs r = (os : List ℕ) × (cs ≡ spread a os ++ acc) × (s ≡ reverse (numbers-bytes os) ++ r) × (length os ≡ n) × Bytes os
 
-old-inv : (f : List ℕ → List Change → Parsed) (place : ℕ) (acc : List Change) (g : Got) (cs : List Change) (r : List ℕ) → old-then f place acc g ≡ parsed cs r
+old-inv : (f : List ℕ → List Change → Parsed) (place : ℕ) (acc : List Change) (g : Got) (cs : List Change) (r : List ℕ)
+    → old-then f place acc g ≡ parsed cs r
     → (o : ℕ) × (t : List ℕ) × (g ≡ got o t) × (o < 256) × (f t (record { place = place; old = o } ∷ acc) ≡ parsed cs r)
 old-inv f place acc bad cs r e = broken-parsed cs r e
 old-inv f place acc (got o t) cs r e = go (ltb o 256) refl
   where
-    go : (b : Bool) → ltb o 256 ≡ b → (p : ℕ) × (u : List ℕ) × (got o t ≡ got p u) × (p < 256) × (f u (record { place = place; old = p } ∷ acc) ≡ parsed cs r)
+    go : (b : Bool) → ltb o 256 ≡ b → (p : ℕ) × (u : List ℕ) × (got o t ≡ got p u) × (p < 256)
+        × (f u (record { place = place; old = p } ∷ acc) ≡ parsed cs r)
     go true q = (o, t, refl, ltb-true o 256 q, rw q at e)
     go false q = broken-parsed cs r (rw q at e)
 
@@ -136,9 +144,11 @@ olds-more : (n a o : ℕ) (s s₁ : List ℕ) (acc cs : List Change) (r : List �
     → OldsRead n a s₁ (record { place = a + n; old = o } ∷ acc) cs r → OldsRead (suc n) a s acc cs r
 olds-more n a o s s₁ acc cs r e h w = (
   w .0 ++ o ∷ [],
-  w .1 ∙ rw (← w .3) (sym (ap (λ (l : List Change). l ++ acc) (spread-append a (w .0) o) ∙ append-assoc (spread a (w .0)) (record { place = a + length (w .0); old = o } ∷ []) acc)),
+  w .1 ∙ rw (← w .3) (sym (ap (λ (l : List Change). l ++ acc) (spread-append a (w .0) o)
+      ∙ append-assoc (spread a (w .0)) (record { place = a + length (w .0); old = o } ∷ []) acc)),
   e ∙ ap (λ (l : List ℕ). reverse (number-bytes o) ++ l) (w .2)
-      ∙ rw (numbers-append (w .0) (o ∷ []), append-nil (number-bytes o), reverse-append (numbers-bytes (w .0)) (number-bytes o)) (sym (append-assoc (reverse (number-bytes o)) (reverse (numbers-bytes (w .0))) r)),
+      ∙ rw (numbers-append (w .0) (o ∷ []), append-nil (number-bytes o), reverse-append (numbers-bytes (w .0)) (number-bytes o))
+      (sym (append-assoc (reverse (number-bytes o)) (reverse (numbers-bytes (w .0))) r)),
   length-append (w .0) (o ∷ []) ∙ omega (arith, w .3),
   bytes-append (w .0) (o ∷ []) (w .4) (h, tt),
 )
@@ -163,13 +173,15 @@ pub record RunsRead (n lim room : ℕ) (s : List ℕ) (acc cs : List Change) (r 
   pub bytes : RunBytes stretches
   pub few : total stretches ≤ room
 
-spaced-more : (lo a lim : ℕ) (os : List ℕ) (rs : List Stretch) → Spaced lo a rs → lo ≤ a → 0 < length os → a + length os < lim → Spaced lo lim (rs ++ record { first = a; olds = os } ∷ [])
+spaced-more : (lo a lim : ℕ) (os : List ℕ) (rs : List Stretch) → Spaced lo a rs → lo ≤ a → 0 < length os → a + length os < lim
+    → Spaced lo lim (rs ++ record { first = a; olds = os } ∷ [])
 spaced-more lo a lim os [] s h some low = (h, some, low, tt)
 spaced-more lo a lim os (r ∷ rs) s h some low =
     (s .0, s .1, omega (arith, s .2), spaced-more (suc (r .first + length (r .olds))) a lim os rs (s .3) (s .2) some low)
 
 -- the parts of one run
-pub record RunRead (f : ℕ → ℕ → List ℕ → List Change → Parsed) (lim room : ℕ) (acc : List Change) (g : Got) (cs : List Change) (r : List ℕ) : Type 0 where
+pub record RunRead (f : ℕ → ℕ → List ℕ → List Change → Parsed) (lim room : ℕ) (acc : List Change) (g : Got) (cs : List Change)
+    (r : List ℕ) : Type 0 where
   pub n : ℕ
   pub s₁ : List ℕ
   pub a : ℕ
@@ -189,17 +201,21 @@ then-inv : (f : List ℕ → List Change → Parsed) (p : Parsed) (cs : List Cha
 then-inv f broken cs r e = broken-parsed cs r e
 then-inv f (parsed ac t) cs r e = (ac, t, refl, e)
 
-first-inv : (f : ℕ → ℕ → List ℕ → List Change → Parsed) (lim room n : ℕ) (acc : List Change) (g : Got) (cs : List Change) (r : List ℕ) → first-then f lim room n acc g ≡ parsed cs r
-    → (a : ℕ) × (t : List ℕ) × (ac : List Change) × (u : List ℕ) × (g ≡ got a t) × (a + n < lim) × (read-olds n a t acc ≡ parsed ac u) × (f a room u ac ≡ parsed cs r)
+first-inv : (f : ℕ → ℕ → List ℕ → List Change → Parsed) (lim room n : ℕ) (acc : List Change) (g : Got) (cs : List Change) (r : List ℕ)
+    → first-then f lim room n acc g ≡ parsed cs r
+    → (a : ℕ) × (t : List ℕ) × (ac : List Change) × (u : List ℕ) × (g ≡ got a t) × (a + n < lim) × (read-olds n a t acc ≡ parsed ac u)
+    × (f a room u ac ≡ parsed cs r)
 first-inv f lim room n acc bad cs r e = broken-parsed cs r e
 first-inv f lim room n acc (got a t) cs r e = go (ltb (a + n) lim) refl
   where
     go : (b : Bool) → ltb (a + n) lim ≡ b
-        → (a₁ : ℕ) × (t₁ : List ℕ) × (ac : List Change) × (u : List ℕ) × (got a t ≡ got a₁ t₁) × (a₁ + n < lim) × (read-olds n a₁ t₁ acc ≡ parsed ac u) × (f a₁ room u ac ≡ parsed cs r)
+        → (a₁ : ℕ) × (t₁ : List ℕ) × (ac : List Change) × (u : List ℕ) × (got a t ≡ got a₁ t₁) × (a₁ + n < lim)
+        × (read-olds n a₁ t₁ acc ≡ parsed ac u) × (f a₁ room u ac ≡ parsed cs r)
     go false q = broken-parsed cs r (rw q at e)
     go true q = let w = then-inv (f a room) (read-olds n a t acc) cs r (rw q at e) in (a, t, w .0, w .1, refl, ltb-true (a + n) lim q, w .2, w .3)
 
-length-inv : (f : ℕ → ℕ → List ℕ → List Change → Parsed) (lim room : ℕ) (acc : List Change) (g : Got) (cs : List Change) (r : List ℕ) → length-then f lim room acc g ≡ parsed cs r → RunRead f lim room acc g cs r
+length-inv : (f : ℕ → ℕ → List ℕ → List Change → Parsed) (lim room : ℕ) (acc : List Change) (g : Got) (cs : List Change) (r : List ℕ)
+    → length-then f lim room acc g ≡ parsed cs r → RunRead f lim room acc g cs r
 length-inv f lim room acc bad cs r e = broken-parsed cs r e
 length-inv f lim room acc (got n t) cs r e = go (ltb 0 n && leb n room) refl
   where
@@ -232,7 +248,8 @@ runs-more k lim room s acc cs r n a s₁ s₂ s₃ acc₁ e₁ e₂ some few low
     let one : Stretch = record { first = a; olds = os } in
     let len : length os ≡ n = o .3 in
     let text₁ : s ≡ reverse (run-bytes one) ++ s₃ =
-    e₁ ∙ ap (λ (l : List ℕ). reverse (number-bytes n) ++ l) (e₂ ∙ ap (λ (l : List ℕ). reverse (number-bytes a) ++ l) (o .2)) ∙ rw (← len) (sym (reverse-run one s₃)) in
+    e₁ ∙ ap (λ (l : List ℕ). reverse (number-bytes n) ++ l) (e₂ ∙ ap (λ (l : List ℕ). reverse (number-bytes a) ++ l) (o .2))
+    ∙ rw (← len) (sym (reverse-run one s₃)) in
     record {
       stretches = rs ++ one ∷ [];
       list =
@@ -240,21 +257,32 @@ runs-more k lim room s acc cs r n a s₁ s₂ s₃ acc₁ e₁ e₂ some few low
           ∙ rw (flat-append rs (one ∷ []), append-nil (spread a os)) (sym (append-assoc (flat rs) (spread a os) acc));
       text =
           text₁ ∙ ap (λ (l : List ℕ). reverse (run-bytes one) ++ l) (w .text)
-          ∙ rw (runs-bytes-append rs (one ∷ []), append-nil (run-bytes one), reverse-append (runs-bytes rs) (run-bytes one)) (sym (append-assoc (reverse (run-bytes one)) (reverse (runs-bytes rs)) r));
+          ∙ rw (runs-bytes-append rs (one ∷ []), append-nil (run-bytes one), reverse-append (runs-bytes rs) (run-bytes one))
+          (sym (append-assoc (reverse (run-bytes one)) (reverse (runs-bytes rs)) r));
       count = length-append rs (one ∷ []) ∙ omega (arith, w .count);
       spaced = spaced-more 0 a lim os rs (w .spaced) (omega arith) (omega arith) (omega arith);
       bytes = run-bytes-append rs (one ∷ []) (w .bytes) (o .4, tt);
       few = omega (arith, total-append rs (one ∷ []), w .few, len);
     }
 
-pub runs-of-read : (n lim room : ℕ) (s : List ℕ) (acc cs : List Change) (r : List ℕ) → read-runs n lim room s acc ≡ parsed cs r → Bytes s → RunsRead n lim room s acc cs r
+pub runs-of-read : (n lim room : ℕ) (s : List ℕ) (acc cs : List Change) (r : List ℕ) → read-runs n lim room s acc ≡ parsed cs r → Bytes s
+    → RunsRead n lim room s acc cs r
 runs-of-read zero lim room s acc cs r e h =
-    record { stretches = []; list = sym (list-of acc cs s r e); text = left-of acc cs s r e; count = refl; spaced = tt; bytes = tt; few = omega arith }
+    record {
+      stretches = [];
+      list = sym (list-of acc cs s r e);
+      text = left-of acc cs s r e;
+      count = refl;
+      spaced = tt;
+      bytes = tt;
+      few = omega arith;
+    }
 runs-of-read (suc k) lim room s acc cs r e h =
     go (length-inv (read-runs k) lim room acc (read-number s) cs r e) (λ l m t ac f b. runs-of-read k l m t ac cs r f b)
   where
     go : RunRead (read-runs k) lim room acc (read-number s) cs r
-        → ((l m : ℕ) (t : List ℕ) (ac : List Change) → read-runs k l m t ac ≡ parsed cs r → Bytes t → RunsRead k l m t ac cs r) → RunsRead (suc k) lim room s acc cs r
+        → ((l m : ℕ) (t : List ℕ) (ac : List Change) → read-runs k l m t ac ≡ parsed cs r → Bytes t → RunsRead k l m t ac cs r)
+        → RunsRead (suc k) lim room s acc cs r
     go w ih =
         let e₁ = bytes-of-read-number s (w .n) (w .s₁) (w .length-read) h in
         let b₁ = bytes-rest s (reverse (number-bytes (w .n))) (w .s₁) e₁ h in

@@ -1,5 +1,5 @@
--- RunLaws.antt - the laws of runs: runs spread out again are the changes, they ascend with a gap between them, and spaced runs are the runs of what they spread to.
--- States: flat-of-runs, spaced-of-runs, runs-of-flat, bytes-of-runs, olds-of-flat, ascending-of-flat, total-of-flat, runs-few.
+-- RunLaws.antt - the laws of runs: spread out again they are the changes; they ascend with a gap; spaced runs are those of what they spread to.
+-- * flat-of-runs, spaced-of-runs, runs-of-flat.   * bytes-of-runs, olds-of-flat, ascending-of-flat, total-of-flat, runs-few: what they hold.
 -- Speaks of: specs/Runs.antt.  Assumes nothing.  Source: [K8].
 use Prim.Native.Nat.{ℕ, suc, _+_, _≤_, _<_}
 use mathlib.Core.Path.{_≡_, refl, sym, ap, _∙_}
@@ -68,11 +68,17 @@ pub flat-of-runs : (cs : List Change) → flat (runs cs) ≡ cs
 flat-of-runs [] = refl
 flat-of-runs (c ∷ cs) = flat-of-joined c (runs cs) ∙ ap (λ (l : List Change). c ∷ l) (flat-of-runs cs)
 
-spaced-of-joined : (lo lim : ℕ) (c : Change) (rs : List Stretch) → Spaced (suc (c .place)) lim rs → lo ≤ c .place → suc (c .place) < lim → Spaced lo lim (joined c rs)
+spaced-of-joined : (lo lim : ℕ) (c : Change) (rs : List Stretch) → Spaced (suc (c .place)) lim rs → lo ≤ c .place → suc (c .place) < lim
+    → Spaced lo lim (joined c rs)
 spaced-of-joined lo lim c [] s h k = (h, omega arith, omega arith, tt)
 spaced-of-joined lo lim c (r ∷ rs) s h k =
     joined-cases (Spaced lo lim) c r rs
-    (λ q. let e : c .place + suc (length (r .olds)) ≡ r .first + length (r .olds) = omega arith in (h, omega arith, omega (arith, e, s .2), rw e (s .3)))
+    (λ q. let e : c .place + suc (length (r .olds)) ≡ r .first + length (r .olds) = omega arith in (
+      h,
+      omega arith,
+      omega (arith, e, s .2),
+      rw e (s .3),
+    ))
     (λ q. (h, omega arith, omega arith, (omega (arith, s .0, q), s .1, s .2, s .3)))
 
 pub spaced-of-runs : (lo hi : ℕ) (cs : List Change) → Ascending lo hi cs → Spaced lo (suc hi) (runs cs)
@@ -96,7 +102,8 @@ Gap e [] = Unit {0}
 Gap e (r ∷ rs) = e ≡ r .first → ⊥
 
 -- neighbouring changes before runs that do not go on with them are one run more
-pub stretch-joined : (a o : ℕ) (os : List ℕ) (cs : List Change) → Gap (a + suc (length os)) (runs cs) → runs (spread a (o ∷ os) ++ cs) ≡ record { first = a; olds = o ∷ os } ∷ runs cs
+pub stretch-joined : (a o : ℕ) (os : List ℕ) (cs : List Change) → Gap (a + suc (length os)) (runs cs)
+    → runs (spread a (o ∷ os) ++ cs) ≡ record { first = a; olds = o ∷ os } ∷ runs cs
 stretch-joined a o [] cs g = go (runs cs) g
   where
     go : (rs : List Stretch) → Gap (a + 1) rs → joined (record { place = a; old = o }) rs ≡ record { first = a; olds = o ∷ [] } ∷ rs
@@ -143,10 +150,15 @@ pub olds-of-flat : (rs : List Stretch) → RunBytes rs → ByteOlds (flat rs)
 olds-of-flat [] b = tt
 olds-of-flat (r ∷ rs) b = olds-of-spread (r .first) (r .olds) (flat rs) (b .0) (olds-of-flat rs (b .1))
 
-ascending-of-spread : (lo hi a : ℕ) (os : List ℕ) (cs : List Change) → lo ≤ a → a + length os ≤ hi → Ascending (a + length os) hi cs → Ascending lo hi (spread a os ++ cs)
+ascending-of-spread : (lo hi a : ℕ) (os : List ℕ) (cs : List Change) → lo ≤ a → a + length os ≤ hi → Ascending (a + length os) hi cs
+    → Ascending lo hi (spread a os ++ cs)
 ascending-of-spread lo hi a [] cs h k s = ascending-raise (a + 0) lo hi cs (omega arith) s
-ascending-of-spread lo hi a (o ∷ os) cs h k s =
-    (h, omega arith, ascending-of-spread (suc a) hi (suc a) os cs (omega arith) (omega arith) (let q : suc a + length os ≡ a + suc (length os) = omega arith in rw q s))
+ascending-of-spread lo hi a (o ∷ os) cs h k s = (
+  h,
+  omega arith,
+  ascending-of-spread (suc a) hi (suc a) os cs (omega arith) (omega arith) (let q : suc a + length os
+      ≡ a + suc (length os) = omega arith in rw q s),
+)
 
 pub ascending-of-flat : (lo hi : ℕ) (rs : List Stretch) → Spaced lo (suc hi) rs → Ascending lo hi (flat rs)
 ascending-of-flat lo hi [] s = tt

@@ -102,7 +102,8 @@ module _ (j : List ℕ) (end lim room : ℕ) (out₀ out : List ℕ) (r : OneRun
   run-at s at a q = rw q at t
 
 -- a turn of reading runs
-pub runs-none : (k lim room : ℕ) (s : List ℕ) (acc : List Change) → 0 < k → ((n : ℕ) → read-runs (suc n) lim room s acc ≡ broken) → read-runs k lim room s acc ≡ broken
+pub runs-none : (k lim room : ℕ) (s : List ℕ) (acc : List Change) → 0 < k → ((n : ℕ) → read-runs (suc n) lim room s acc ≡ broken)
+    → read-runs k lim room s acc ≡ broken
 runs-none zero lim room s acc h f = absurd (not-suc-le-zero h)
 runs-none (suc k) lim room s acc h f = f k
 

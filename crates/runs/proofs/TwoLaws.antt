@@ -1,28 +1,29 @@
 -- TwoLaws.antt - a record of form 2: what is put reads back, and what reads is what was put; so both forms hold the same.
 -- * two-reads, two-puts: of every well-shaped record.   * two-some: it is not empty.
 -- Speaks of: record-two and shaped-two of specs/Two.antt, Good of oldest.  Assumes nothing.  Source: [K8].
-use Prim.Native.Nat.{ℕ, suc, _+_, _^_, _≤_, _<_}
+use Prim.Native.Nat.{ℕ, suc, _+_, _≤_}
 use mathlib.Core.Path.{_≡_, refl, sym, ap, _∙_}
 use mathlib.Core.Bool.{true}
 use mathlib.Core.List.{List, [], _∷_, _++_, append-assoc, append-nil, reverse, reverse-append}
 use native.Mathlib.Omega.{arith}
 use lib.ListN.{length, length-append}
 use lib.Dec.{leb}
-use borrow.Author.Tests.{lt-ltb, le-leb, leb-true}
+use borrow.Author.Tests.{lt-ltb, leb-true}
 use Rattle.codes.specs.Codes.{Addresses}
 use Rattle.numbers.specs.Number.{Got, got, bad, number-bytes, read-number}
-use Rattle.numbers.proofs.NumberLaws.{Bytes, bytes-rest, read-of-number-bytes, bytes-of-read-number, number-bytes-some}
+use Rattle.numbers.proofs.NumberLaws.{bytes-rest, read-of-number-bytes, bytes-of-read-number, number-bytes-some}
 use Rattle.record.specs.Limits.{slot-limit, byte-limit, valid-value, valid-byte}
 use Rattle.record.specs.Change.{Change, ByteOlds, changes-bytes}
-use Rattle.undo.specs.Undo.{parsed, read-changes, Record, found, none, with-bytes, all-valid}
+use Rattle.undo.specs.Undo.{parsed, Record, found, none, with-bytes, all-valid}
 use Rattle.undo.proofs.JudgeLaws.{none-found, olds-of-valid}
 use Rattle.undo.proofs.ShapeLaws.{if-inv, bytes-inv, sorted, bytes-of-read-changes}
 use Rattle.undo.proofs.UndoLaws.{read-all}
 use Rattle.oldest.specs.Room.{Row}
-use Rattle.oldest.proofs.RowLaws.{Good, Puts, Reads, small-of-olds}
+use Rattle.oldest.proofs.RowLaws.{Puts, Reads, small-of-olds}
 use Rattle.runs.specs.Runs.{Stretch, runs, runs-bytes, read-runs}
 use Rattle.runs.specs.Two.{record-two, two-slot-count, two-run-count, read-two, if-slots-valid, shaped-two}
-use Rattle.runs.proofs.RunLaws.{flat, total, flat-of-runs, spaced-of-runs, runs-of-flat, bytes-of-runs, olds-of-flat, ascending-of-flat, total-of-flat, runs-few}
+use Rattle.runs.proofs.RunLaws.{flat, total, flat-of-runs, spaced-of-runs, runs-of-flat}
+use Rattle.runs.proofs.RunLaws.{bytes-of-runs, olds-of-flat, ascending-of-flat, total-of-flat, runs-few}
 use Rattle.runs.proofs.ReadRunLaws.{runs-all, runs-of-read}
 use Rattle.runs.proofs.StepLaws.{two-shaped}
 
@@ -42,7 +43,8 @@ two-some ss bs =
 -- the four parts, from the end
 two-reversed : (ss bs : List Change) (s : List ℕ)
     → reverse (record-two ss bs) ++ s
-    ≡ reverse (number-bytes (length (runs bs))) ++ (reverse (number-bytes (length ss)) ++ (reverse (runs-bytes (runs bs)) ++ (reverse (changes-bytes ss) ++ s)))
+    ≡ reverse (number-bytes (length (runs bs))) ++ (reverse (number-bytes (length ss))
+    ++ (reverse (runs-bytes (runs bs)) ++ (reverse (changes-bytes ss) ++ s)))
 unfolding record-two
 two-reversed ss bs s = simp (reverse-append, append-assoc)
 
@@ -67,7 +69,8 @@ two-reads r s g =
     let z₁ = reverse (number-bytes (length ss)) ++ z₂ in
     let z = reverse (number-bytes (length rs)) ++ z₁ in
     let there : read-runs (length rs) (suc Addresses) byte-limit z₂ [] ≡ parsed bs z₃ =
-    runs-all rs (suc Addresses) byte-limit z₃ sp (bytes-of-runs bs (olds-of-valid bs (g .bytes-valid))) few (omega arith) ∙ ap (λ (l : List Change). parsed l z₃) (flat-of-runs bs) in (
+    runs-all rs (suc Addresses) byte-limit z₃ sp (bytes-of-runs bs (olds-of-valid bs (g .bytes-valid))) few (omega arith)
+    ∙ ap (λ (l : List Change). parsed l z₃) (flat-of-runs bs) in (
       ap shaped-two (two-reversed ss bs s)
           ∙ two-shaped z (length rs) z₁ (read-of-number-bytes (length rs) z₁ (omega arith)) n
           (length ss) z₂ (read-of-number-bytes (length ss) z₂ (omega (arith, g .few-slots))) (g .few-slots)
@@ -93,7 +96,8 @@ run-count-inv (got n s) ss bs r e =
     let w = if-inv (leb n byte-limit) (two-slot-count n (read-number s)) ss bs r e in
     (n, s, refl, leb-true n byte-limit (w .1), w .0)
 
-slots-valid-inv : (w : Record) (ss bs : List Change) (r : List ℕ) → if-slots-valid w ≡ found ss bs r → (w ≡ found ss bs r) × (all-valid valid-value ss ≡ true)
+slots-valid-inv : (w : Record) (ss bs : List Change) (r : List ℕ) → if-slots-valid w ≡ found ss bs r
+    → (w ≡ found ss bs r) × (all-valid valid-value ss ≡ true)
 slots-valid-inv none ss bs r e = none-found ss bs r e
 slots-valid-inv (found cs ds t) ss bs r e =
     let w = if-inv (all-valid valid-value cs) (found cs ds t) ss bs r e in
@@ -101,11 +105,13 @@ slots-valid-inv (found cs ds t) ss bs r e =
     let slots : cs ≡ ss = cc in
     (same, rw (← slots) (w .1))
 
-two-whole : (ss bs : List Change) (s s₁ s₂ s₃ r : List ℕ) → s ≡ reverse (number-bytes (length (runs bs))) ++ s₁ → s₁ ≡ reverse (number-bytes (length ss)) ++ s₂
+two-whole : (ss bs : List Change) (s s₁ s₂ s₃ r : List ℕ) → s ≡ reverse (number-bytes (length (runs bs))) ++ s₁
+    → s₁ ≡ reverse (number-bytes (length ss)) ++ s₂
     → s₂ ≡ reverse (runs-bytes (runs bs)) ++ s₃ → s₃ ≡ reverse (changes-bytes ss) ++ r → s ≡ reverse (record-two ss bs) ++ r
 two-whole ss bs s s₁ s₂ s₃ r e₁ e₂ e₃ e₄ =
     e₁
-    ∙ ap (λ (l : List ℕ). reverse (number-bytes (length (runs bs))) ++ l) (e₂ ∙ ap (λ (l : List ℕ). reverse (number-bytes (length ss)) ++ l) (e₃ ∙ ap (λ (l : List ℕ). reverse (runs-bytes (runs bs)) ++ l) e₄))
+    ∙ ap (λ (l : List ℕ). reverse (number-bytes (length (runs bs))) ++ l) (e₂
+    ∙ ap (λ (l : List ℕ). reverse (number-bytes (length ss)) ++ l) (e₃ ∙ ap (λ (l : List ℕ). reverse (runs-bytes (runs bs)) ++ l) e₄))
     ∙ sym (two-reversed ss bs r)
 
 pub two-puts : Puts shaped-two two-bytes Addresses

@@ -37,7 +37,8 @@ returns-3 c =
     let y = c .before .before .write-back in
     let j = now (s .args .journal) in
     let t = now (s .args .target) in
-    promise-when-fits (s .args .form) j t (o .0 .0) (y .last .1 .1 .0) (measured-fits (s .args .form) j (length t) (x .result) (x .ensures) (o .0 .0) (o .1)) (y .ensures)
+    promise-when-fits (s .args .form) j t (o .0 .0) (y .last .1 .1 .0)
+    (measured-fits (s .args .form) j (length t) (x .result) (x .ensures) (o .0 .0) (o .1)) (y .ensures)
 
 pub convert-spec : {M : Type 1} → statement M
 convert-spec =

@@ -1,7 +1,6 @@
 -- convert_record: the record that was read, and its bytes in the other form.
 use Prim.Native.Nat.{ℕ, _≤_}
 use native.Mathlib.Omega.{arith}
-use mathlib.Core.Path.{_≡_}
 use mathlib.Core.List.{List}
 use denote.Ref.{now}
 use lib.ListN.{length}
@@ -71,7 +70,8 @@ returns c =
     let s = c .before .before .before .before .before .before .before .before .before in
     let x = c .before .before .before .before .read-in in
     let j₁ = now (s .args .journal) in
-    logged-nothing (read-in (s .args .form) (back j₁ (s .args .mark))) j₁ (s .args .mark) (x .last .1 .1 .1 .0) (x .last .1 .1 .1 .1 .0) (x .result) (x .ensures) (c .enum-told .given .1)
+    logged-nothing (read-in (s .args .form) (back j₁ (s .args .mark))) j₁ (s .args .mark) (x .last .1 .1 .1 .0) (x .last .1 .1 .1 .1 .0) (x .result)
+    (x .ensures) (c .enum-told .given .1)
 
 put-in-requires : tie.Need-put-in-requires
 put-in-requires c κs =

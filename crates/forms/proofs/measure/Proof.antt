@@ -1,5 +1,5 @@
 -- measure: the records that are left, read now after those that were, give what was asked; the space that is left follows.
-use Prim.Native.Nat.{ℕ, _-_, _≤_}
+use Prim.Native.Nat.{_-_}
 use native.Mathlib.Omega.{arith}
 use mathlib.Core.Path.{_≡_, refl}
 use mathlib.Core.List.{List, [], _∷_}
@@ -45,7 +45,8 @@ loop-less c =
     let q = c .before .before .before .before .before .before .before .before .loop in
     let x = c .before .before .before .before .before .convert-record in
     let o = c .before .before .len .given in
-    let g = converted-record (s .args .form) (now (s .args .journal)) (q .e) (x .last .1 .1 .1 .0) (x .result) (x .ensures) (o .0 .0) (o .0 .1 .0) (o .1) in
+    let g = converted-record (s .args .form) (now (s .args .journal)) (q .e) (x .last .1 .1 .1 .0) (x .result) (x .ensures) (o .0 .0) (o .0 .1 .0)
+    (o .1) in
     omega (arith, g .2)
 
 loop-again : tie.Need-loop-again Inv-loop μ-loop
@@ -61,7 +62,8 @@ loop-again c =
       g .0 ∷ q .inv .0,
       passed-more form j (q .e) (q .inv .0) some (q .inv .1) (g .0) (o .0 .1 .0) (g .2) (g .1),
       omega (arith, x .kept .1 .1 .1 .0, q .inv .2),
-      space-more (other form) (s .args .space) (o .0 .0) (g .0) (q .inv .0) (c .less .result) (g .3) (c .less .ensures (s .args .space) (length (journal-in (other form) (q .inv .0))) (q .inv .3)),
+      space-more (other form) (s .args .space) (o .0 .0) (g .0) (q .inv .0) (c .less .result) (g .3)
+          (c .less .ensures (s .args .space) (length (journal-in (other form) (q .inv .0))) (q .inv .3)),
     )
 
 sub-t14 : tie.Need-sub-t14 Inv-loop μ-loop
@@ -76,7 +78,8 @@ returns-2 c =
     let q = c .before .before .before .loop in
     let j = now (s .args .journal) in
     let end : q .e ≡ 0 = omega arith in
-    measured-taken (s .args .form) j (s .args .space) (q .inv .0) (q .r) (passed-end (s .args .form) j (q .e) (q .inv .0) end (q .inv .1)) (q .inv .3) (c .before .if1 .taken)
+    measured-taken (s .args .form) j (s .args .space) (q .inv .0) (q .r) (passed-end (s .args .form) j (q .e) (q .inv .0) end (q .inv .1))
+    (q .inv .3) (c .before .if1 .taken)
 
 returns-3 : tie.Need-returns-3 Inv-loop μ-loop
 returns-3 c =
@@ -84,7 +87,8 @@ returns-3 c =
     let q = c .before .before .loop in
     let j = now (s .args .journal) in
     let end : q .e ≡ 0 = omega arith in
-    measured-over (s .args .form) j (s .args .space) (q .inv .0) (q .r) (passed-end (s .args .form) j (q .e) (q .inv .0) end (q .inv .1)) (q .inv .3) (c .if1 .left)
+    measured-over (s .args .form) j (s .args .space) (q .inv .0) (q .r) (passed-end (s .args .form) j (q .e) (q .inv .0) end (q .inv .1))
+    (q .inv .3) (c .if1 .left)
 
 pub measure-spec : {M : Type 1} → statement M
 measure-spec =

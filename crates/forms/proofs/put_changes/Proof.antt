@@ -49,19 +49,23 @@ put-number-requires : tie.Need-put-number-requires Inv-loop μ-loop
 put-number-requires c κs =
     let s = c .before .before .before .before .before .before in
     let q = c .before .before .before .loop in
-    left-room (now (s .args .out)) (s .args .at) (all s (q .k)) (s .pre .3) (q .out) (q .p) (rest s (q .k)) (hi s (q .k)) (lo s (q .k) ++ more s (q .k))
+    left-room (now (s .args .out)) (s .args .at) (all s (q .k)) (s .pre .3) (q .out) (q .p) (rest s (q .k)) (hi s (q .k))
+    (lo s (q .k) ++ more s (q .k))
     (changes-rest (log s (q .k)) (q .k) (s .args .n) (c .before .before .loop-test .taken) (s .pre .1)) (q .inv .1)
 
 after-one : (c : tie.After-slice-known2 Inv-loop μ-loop)
     → let s = c .before .before .before .before .before .before .before .before .before in
     let q = c .before .before .before .before .before .before .loop in
-    Left (now (s .args .out)) (s .args .at) (all s (q .k)) (c .before .before .put-number .last .0) (c .before .before .put-number .result) (lo s (q .k) ++ more s (q .k))
+    Left (now (s .args .out)) (s .args .at) (all s (q .k)) (c .before .before .put-number .last .0) (c .before .before .put-number .result)
+    (lo s (q .k) ++ more s (q .k))
 after-one c =
     let s = c .before .before .before .before .before .before .before .before .before in
     let q = c .before .before .before .before .before .before .loop in
     let x = c .before .before .put-number in
-    left-step (now (s .args .out)) (s .args .at) (all s (q .k)) (s .pre .3) (q .out) (q .p) (rest s (q .k)) (hi s (q .k)) (lo s (q .k) ++ more s (q .k))
-    (changes-rest (log s (q .k)) (q .k) (s .args .n) (c .before .before .before .before .before .loop-test .taken) (s .pre .1)) (q .inv .1) (x .result) (x .last .0) (x .ensures .0) (x .ensures .1)
+    left-step (now (s .args .out)) (s .args .at) (all s (q .k)) (s .pre .3) (q .out) (q .p) (rest s (q .k)) (hi s (q .k))
+    (lo s (q .k) ++ more s (q .k))
+    (changes-rest (log s (q .k)) (q .k) (s .args .n) (c .before .before .before .before .before .loop-test .taken) (s .pre .1)) (q .inv .1)
+    (x .result) (x .last .0) (x .ensures .0) (x .ensures .1)
 
 put-number-requires-2 : tie.Need-put-number-requires-2 Inv-loop μ-loop
 put-number-requires-2 c κs =
@@ -69,7 +73,8 @@ put-number-requires-2 c κs =
     let s = d .before .before .before .before .before .before .before .before .before in
     let q = d .before .before .before .before .before .before .loop in
     let x = d .before .before .put-number in
-    left-room (now (s .args .out)) (s .args .at) (all s (q .k)) (s .pre .3) (x .last .0) (x .result) (lo s (q .k) ++ more s (q .k)) (lo s (q .k)) (more s (q .k)) refl (after-one d)
+    left-room (now (s .args .out)) (s .args .at) (all s (q .k)) (s .pre .3) (x .last .0) (x .result) (lo s (q .k) ++ more s (q .k)) (lo s (q .k))
+    (more s (q .k)) refl (after-one d)
 
 loop-again : tie.Need-loop-again Inv-loop μ-loop
 loop-again c =
@@ -77,15 +82,19 @@ loop-again c =
     let s = d .before .before .before .before .before .before .before .before .before in
     let q = d .before .before .before .before .before .before .loop in
     let x = d .before .before .put-number in
-    let y = c .before .before .put-number2 in
-    (omega arith, left-step (now (s .args .out)) (s .args .at) (all s (q .k)) (s .pre .3) (x .last .0) (x .result) (lo s (q .k) ++ more s (q .k)) (lo s (q .k)) (more s (q .k)) refl (after-one d) (y .result) (y .last .0) (y .ensures .0) (y .ensures .1))
+    let y = c .before .before .put-number2 in (
+      omega arith,
+      left-step (now (s .args .out)) (s .args .at) (all s (q .k)) (s .pre .3) (x .last .0) (x .result) (lo s (q .k) ++ more s (q .k))
+          (lo s (q .k)) (more s (q .k)) refl (after-one d) (y .result) (y .last .0) (y .ensures .0) (y .ensures .1),
+    )
 
 returns : tie.Need-returns Inv-loop μ-loop
 returns c =
     let s = c .before .before .before .before in
     let q = c .before .loop in
     record {
-      bytes = left-end (now (s .args .out)) (s .args .at) (all s (q .k)) (q .out) (q .p) (rest s (q .k)) (changes-none (log s (q .k)) (q .k) (s .args .n) (q .inv .0) (omega arith)) (q .inv .1);
+      bytes = left-end (now (s .args .out)) (s .args .at) (all s (q .k)) (q .out) (q .p) (rest s (q .k))
+          (changes-none (log s (q .k)) (q .k) (s .args .n) (q .inv .0) (omega arith)) (q .inv .1);
       count = sym (length-between (log s (q .k)) (s .args .i) (s .args .n) (s .pre .1));
     }
 

@@ -59,7 +59,8 @@ put-number-requires c κs =
     let s = c .before .before .before .before .before .before .before .before .before .before .before .before in
     let x = c .before .before .before .before .before .before .before .put-changes in
     let y = c .before .before .before .put-part in
-    rw (x .ensures .count) (room-3 (O s) 0 (a s) (b s) (f s) (d s) (fits s) (x .result .at) (x .last .0) (x .ensures .bytes) (y .result .at) (y .last .1 .0) (y .ensures .bytes))
+    rw (x .ensures .count) (room-3 (O s) 0 (a s) (b s) (f s) (d s) (fits s) (x .result .at) (x .last .0) (x .ensures .bytes) (y .result .at)
+    (y .last .1 .0) (y .ensures .bytes))
 
 put-number-requires-2 : tie.Need-put-number-requires-2
 put-number-requires-2 c κs =
@@ -67,17 +68,20 @@ put-number-requires-2 c κs =
     let x = c .before .before .before .before .before .before .before .before .before .before .before .put-changes in
     let y = c .before .before .before .before .before .before .before .put-part in
     let z = c .before .before .before .put-number in
-    rw (y .ensures .count) (room-4 (O s) 0 (a s) (b s) (f s) (d s) (fits s) (x .result .at) (x .last .0) (x .ensures .bytes) (y .result .at) (y .last .1 .0) (y .ensures .bytes)
+    rw (y .ensures .count) (room-4 (O s) 0 (a s) (b s) (f s) (d s) (fits s) (x .result .at) (x .last .0) (x .ensures .bytes) (y .result .at)
+    (y .last .1 .0) (y .ensures .bytes)
     (z .result) (z .last .0) (record { place = rw (← x .ensures .count) (z .ensures .0); bytes = rw (← x .ensures .count) (z .ensures .1) }))
 
 returns : tie.Need-returns
 returns c =
-    let s = c .before .before .before .before .before .before .before .before .before .before .before .before .before .before .before .before .before .before .before in
+    let s = c .before .before .before .before .before .before .before .before .before .before .before .before .before .before .before .before
+    .before .before .before in
     let x = c .before .before .before .before .before .before .before .before .before .before .before .before .before .before .put-changes in
     let y = c .before .before .before .before .before .before .before .before .before .before .put-part in
     let z = c .before .before .before .before .before .before .put-number in
     let w = c .before .before .put-number2 in
-    rw (parts s) (all-put (O s) 0 (a s) (b s) (f s) (d s) (fits s) (x .result .at) (x .last .0) (x .ensures .bytes) (y .result .at) (y .last .1 .0) (y .ensures .bytes)
+    rw (parts s) (all-put (O s) 0 (a s) (b s) (f s) (d s) (fits s) (x .result .at) (x .last .0) (x .ensures .bytes) (y .result .at) (y .last .1 .0)
+    (y .ensures .bytes)
     (z .result) (z .last .0) (record { place = rw (← x .ensures .count) (z .ensures .0); bytes = rw (← x .ensures .count) (z .ensures .1) })
     (w .result) (w .last .0) (record { place = rw (← y .ensures .count) (w .ensures .0); bytes = rw (← y .ensures .count) (w .ensures .1) }))
 

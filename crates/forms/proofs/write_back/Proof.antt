@@ -113,7 +113,8 @@ loop-again c =
       omega (arith, x .kept .1 .1 .1 .0, q .inv .2),
       omega (arith, y .kept .0, q .inv .3),
       omega (arith, low d, there d .3, q .inv .4, length-append bytes rest),
-      y .ensures ∙ copied t₀ (q .target) (out d) (p d) (len d) bytes rest (there d .3) (there d .4) (low d) (q .inv .5) (omega (arith, q .inv .4, s₁ d .pre .3)),
+      y .ensures ∙ copied t₀ (q .target) (out d) (p d) (len d) bytes rest (there d .3) (there d .4) (low d) (q .inv .5)
+          (omega (arith, q .inv .4, s₁ d .pre .3)),
     )
 
 returns-2 : tie.Need-returns-2 Inv-loop μ-loop

@@ -15,7 +15,8 @@ use Rattle.runs.proofs.put.put_olds.Statement.{statement}
 use Rattle.runs.proofs.put.put_olds.Tie as tie
 
 abbrev Inv-loop : tie.InvT-loop
-Inv-loop out₀ at log i n k₀ p₀ out k p = (k ≤ n) × Left out₀ at (numbers-bytes (olds (between i n log))) out p (numbers-bytes (olds (between k n log)))
+Inv-loop out₀ at log i n k₀ p₀ out k p = (k ≤ n) × Left out₀ at (numbers-bytes (olds (between i n log))) out p
+    (numbers-bytes (olds (between k n log)))
 
 abbrev μ-loop : tie.MeasureT-loop
 μ-loop out₀ at log i n k₀ p₀ out k p = n - k
@@ -57,14 +58,16 @@ loop-again c =
     let x = c .before .before .put-number in (
       omega arith,
       left-step (now (s .args .out)) (s .args .at) (all s (q .k)) (s .pre .2) (q .out) (q .p) (rest s (q .k)) (lo s (q .k)) (more s (q .k))
-          (olds-rest (log s (q .k)) (q .k) (s .args .n) (c .before .before .before .before .before .loop-test .taken) (s .pre .1)) (q .inv .1) (x .result) (x .last .0) (x .ensures .0) (x .ensures .1),
+          (olds-rest (log s (q .k)) (q .k) (s .args .n) (c .before .before .before .before .before .loop-test .taken) (s .pre .1)) (q .inv .1)
+          (x .result) (x .last .0) (x .ensures .0) (x .ensures .1),
     )
 
 returns : tie.Need-returns Inv-loop μ-loop
 returns c =
     let s = c .before .before .before .before in
     let q = c .before .loop in
-    left-end (now (s .args .out)) (s .args .at) (all s (q .k)) (q .out) (q .p) (rest s (q .k)) (olds-none (log s (q .k)) (q .k) (s .args .n) (q .inv .0) (omega arith)) (q .inv .1)
+    left-end (now (s .args .out)) (s .args .at) (all s (q .k)) (q .out) (q .p) (rest s (q .k))
+    (olds-none (log s (q .k)) (q .k) (s .args .n) (q .inv .0) (omega arith)) (q .inv .1)
 
 pub put-olds-spec : {M : Type 1} → statement M
 put-olds-spec =

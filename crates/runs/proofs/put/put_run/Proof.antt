@@ -30,7 +30,10 @@ module _ (s : tie.Start) where
   abbrev d : List ℕ
   d = number-bytes (s .args .n - s .args .i)
 
-  parts : run-bytes (record { first = getD (now (s .args .log)) (s .args .i) 0 / 2 ^ 32; olds = olds (between (s .args .i) (s .args .n) (now (s .args .log))) }) ≡ b ++ (f ++ d)
+  parts : run-bytes (record {
+    first = getD (now (s .args .log)) (s .args .i) 0 / 2 ^ 32;
+    olds = olds (between (s .args .i) (s .args .n) (now (s .args .log)));
+  }) ≡ b ++ (f ++ d)
   parts = run-parts (now (s .args .log)) (s .args .i) (s .args .n) (s .pre .1)
 
   fits : at + length (b ++ (f ++ d)) ≤ length O
@@ -55,7 +58,8 @@ put-number-requires-2 c κs =
     let s = c .before .before .before .before .before .before .before .before .before .before .before .before in
     let x = c .before .before .before .before .before .before .before .put-olds in
     let y = c .before .before .before .put-number in
-    room-4 (O s) (at s) [] (b s) (f s) (d s) (fits s) (at s) (O s) (put-none (O s) (at s)) (x .result) (x .last .0) (x .ensures) (y .result) (y .last .0) (record { place = y .ensures .0; bytes = y .ensures .1 })
+    room-4 (O s) (at s) [] (b s) (f s) (d s) (fits s) (at s) (O s) (put-none (O s) (at s)) (x .result) (x .last .0) (x .ensures) (y .result)
+    (y .last .0) (record { place = y .ensures .0; bytes = y .ensures .1 })
 
 returns : tie.Need-returns
 returns c =
@@ -63,7 +67,8 @@ returns c =
     let x = c .before .before .before .before .before .before .before .before .before .before .put-olds in
     let y = c .before .before .before .before .before .before .put-number in
     let z = c .before .before .put-number2 in
-    rw (parts s) (all-put (O s) (at s) [] (b s) (f s) (d s) (fits s) (at s) (O s) (put-none (O s) (at s)) (x .result) (x .last .0) (x .ensures) (y .result) (y .last .0) (record { place = y .ensures .0; bytes = y .ensures .1 })
+    rw (parts s) (all-put (O s) (at s) [] (b s) (f s) (d s) (fits s) (at s) (O s) (put-none (O s) (at s)) (x .result) (x .last .0) (x .ensures)
+    (y .result) (y .last .0) (record { place = y .ensures .0; bytes = y .ensures .1 })
     (z .result) (z .last .0) (record { place = z .ensures .0; bytes = z .ensures .1 }))
 
 pub put-run-spec : {M : Type 1} → statement M

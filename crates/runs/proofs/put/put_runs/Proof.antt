@@ -49,7 +49,8 @@ put-run-requires c κs =
       e .some,
       omega (arith, e .inside),
       omega (arith, e .inside),
-      left-room (now (s .args .out)) (s .args .at) (all s (q .k)) (s .pre .3) (q .out) (q .p) (rest s (q .k)) (one s (q .k) f) (rest s f) (runs-rest (log s (q .k)) (q .k) (s .args .n) f e) (q .inv .2),
+      left-room (now (s .args .out)) (s .args .at) (all s (q .k)) (s .pre .3) (q .out) (q .p) (rest s (q .k)) (one s (q .k) f) (rest s f)
+          (runs-rest (log s (q .k)) (q .k) (s .args .n) f e) (q .inv .2),
     )
 
 loop-again : tie.Need-loop-again Inv-loop μ-loop
@@ -61,7 +62,8 @@ loop-again c =
     let x = c .before .before .put-run in (
       e .inside,
       omega (arith, e .some),
-      left-put (now (s .args .out)) (s .args .at) (all s (q .k)) (s .pre .3) (q .out) (q .p) (rest s (q .k)) (one s (q .k) f) (rest s f) (runs-rest (log s (q .k)) (q .k) (s .args .n) f e) (q .inv .2) (x .result) (x .last .0) (x .ensures),
+      left-put (now (s .args .out)) (s .args .at) (all s (q .k)) (s .pre .3) (q .out) (q .p) (rest s (q .k)) (one s (q .k) f) (rest s f)
+          (runs-rest (log s (q .k)) (q .k) (s .args .n) f e) (q .inv .2) (x .result) (x .last .0) (x .ensures),
       omega (arith, q .inv .3, runs-count (log s (q .k)) (q .k) (s .args .n) f e),
     )
 

@@ -25,15 +25,21 @@ returns c =
     let s = c .before .before .before .before .before in
     let q = c .before .before .before .loop in
     let l = now (s .args .log) in
-    run-ends l (s .args .i) (q .k) (s .args .n) (q .inv .0) (q .inv .1) (s .pre .1) (q .inv .3) (c .before .before .loop-test .taken) (λ e. c .if1 .taken (e ∙ sym (q .inv .2)))
+    run-ends l (s .args .i) (q .k) (s .args .n) (q .inv .0) (q .inv .1) (s .pre .1) (q .inv .3) (c .before .before .loop-test .taken)
+    (λ e. c .if1 .taken (e ∙ sym (q .inv .2)))
 
 loop-again : tie.Need-loop-again Inv-loop μ-loop
 loop-again c =
     let s = c .before .before .before .before .before in
     let q = c .before .before .before .loop in
     let l = now (s .args .log) in
-    let same = c .if1 .left in
-    (omega arith, omega arith, omega (arith, q .inv .0, q .inv .2, same), straight-more l (s .args .i) (q .k) (omega arith) (omega arith) (q .inv .3) (same ∙ q .inv .2), omega (arith, c .before .shared-slice-known2 .given (q .k)))
+    let same = c .if1 .left in (
+      omega arith,
+      omega arith,
+      omega (arith, q .inv .0, q .inv .2, same),
+      straight-more l (s .args .i) (q .k) (omega arith) (omega arith) (q .inv .3) (same ∙ q .inv .2),
+      omega (arith, c .before .shared-slice-known2 .given (q .k)),
+    )
 
 returns-2 : tie.Need-returns-2 Inv-loop μ-loop
 returns-2 c =

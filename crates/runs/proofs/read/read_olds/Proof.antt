@@ -30,8 +30,11 @@ returns c =
     let s = c .before .before .before .before .before .before .before in
     let q = c .before .before .before .before .loop in
     let j = now (s .args .journal) in
-    let t = c .before .before .read-number in
-    (q .inv .3 ∙ old-bad (q .k) (s .args .first) (back j (q .e)) (between (s .args .at + q .k) byte-limit (q .out)) (c .before .before .before .loop-test .taken) (number-bad j (q .e) (t .result) (t .ensures) (c .enum-told .given .1)), q .inv .2)
+    let t = c .before .before .read-number in (
+      q .inv .3 ∙ old-bad (q .k) (s .args .first) (back j (q .e)) (between (s .args .at + q .k) byte-limit (q .out))
+          (c .before .before .before .loop-test .taken) (number-bad j (q .e) (t .result) (t .ensures) (c .enum-told .given .1)),
+      q .inv .2,
+    )
 
 returns-2 : tie.Need-returns-2 Inv-loop μ-loop
 returns-2 c =
@@ -40,8 +43,11 @@ returns-2 c =
     let j = now (s .args .journal) in
     let t = c .before .before .before .before .read-number in
     let o = c .before .before .old .given in
-    let g = number-got j (q .e) (t .result) (t .ensures) (o .0 .0) (o .0 .1 .0) (o .1) in
-    (q .inv .3 ∙ old-large (q .k) (s .args .first) (back j (q .e)) (between (s .args .at + q .k) byte-limit (q .out)) (c .before .before .before .before .before .loop-test .taken) (o .0 .0) (back j (o .0 .1 .0)) (g .0) (c .if1 .taken), q .inv .2)
+    let g = number-got j (q .e) (t .result) (t .ensures) (o .0 .0) (o .0 .1 .0) (o .1) in (
+      q .inv .3 ∙ old-large (q .k) (s .args .first) (back j (q .e)) (between (s .args .at + q .k) byte-limit (q .out))
+          (c .before .before .before .before .before .loop-test .taken) (o .0 .0) (back j (o .0 .1 .0)) (g .0) (c .if1 .taken),
+      q .inv .2,
+    )
 
 loop-again : tie.Need-loop-again Inv-loop μ-loop
 loop-again c =

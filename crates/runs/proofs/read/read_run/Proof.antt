@@ -62,8 +62,10 @@ module _ (c : tie.After-a) where
 returns : tie.Need-returns
 returns c =
     let s = c .before .before .before .before .before in
-    let t = c .before .before .read-number in
-    (length-bad (s .args .lim) (s .args .room) (Z s) (Acc s) (number-bad (J s) (s .args .end) (t .result) (t .ensures) (c .enum-told .given .1)), search needs)
+    let t = c .before .before .read-number in (
+      length-bad (s .args .lim) (s .args .room) (Z s) (Acc s) (number-bad (J s) (s .args .end) (t .result) (t .ensures) (c .enum-told .given .1)),
+      search needs,
+    )
 
 returns-2 : tie.Need-returns-2
 returns-2 c =
@@ -86,15 +88,21 @@ returns-4 c =
     let b = c .before .before .before .before .before .before in
     let s = s₁ b in
     let t = c .before .before .read-number2 in
-    let h : 0 < m b = omega (arith, c .before .before .before .before .if1 .left) in
-    (address-bad (s .args .lim) (s .args .room) (Z s) (Acc s) (m b) (back (J s) (p₁ b)) (g₁ b .0) h (c .before .before .before .if2 .left) (number-bad (J s) (p₁ b) (t .result) (t .ensures) (c .enum-told2 .given .1)), search needs)
+    let h : 0 < m b = omega (arith, c .before .before .before .before .if1 .left) in (
+      address-bad (s .args .lim) (s .args .room) (Z s) (Acc s) (m b) (back (J s) (p₁ b)) (g₁ b .0) h (c .before .before .before .if2 .left)
+          (number-bad (J s) (p₁ b) (t .result) (t .ensures) (c .enum-told2 .given .1)),
+      search needs,
+    )
 
 returns-5 : tie.Need-returns-5
 returns-5 c =
     let d = c .before .before in
     let b = b₂ d in
-    let s = s₁ b in
-    (address-late (s .args .lim) (s .args .room) (Z s) (Acc s) (m b) (back (J s) (p₁ b)) (g₁ b .0) (some d) (few d) (a d) (back (J s) (p₂ d)) (g₂ d .0) (c .if3 .taken), search needs)
+    let s = s₁ b in (
+      address-late (s .args .lim) (s .args .room) (Z s) (Acc s) (m b) (back (J s) (p₁ b)) (g₁ b .0) (some d) (few d) (a d) (back (J s) (p₂ d))
+          (g₂ d .0) (c .if3 .taken),
+      search needs,
+    )
 
 read-olds-requires : tie.Need-read-olds-requires
 read-olds-requires c κs =
@@ -115,9 +123,13 @@ returns-6 c =
     let s = s₁ b in
     let low = c .before .before .before .before .before .before .if3 .left in
     let x = c .before .before .before .before .read-olds in
-    let o = olds-broken (J s) (p₂ d) (m b) (a d) (now (s .args .out)) (s .args .room - m b) (x .last .1 .1 .1 .1 .0) (x .result) (x .ensures) (c .enum-told3 .given .1) in
-    let e : read-olds (m b) (a d) (back (J s) (p₂ d)) (Acc s) ≡ broken = rw (← same-acc s (m b) (few d)) (o .0) in
-    (run-olds-broken (s .args .lim) (s .args .room) (Z s) (Acc s) (m b) (back (J s) (p₁ b)) (g₁ b .0) (some d) (few d) (a d) (back (J s) (p₂ d)) (g₂ d .0) low e, o .1)
+    let o = olds-broken (J s) (p₂ d) (m b) (a d) (now (s .args .out)) (s .args .room - m b) (x .last .1 .1 .1 .1 .0) (x .result) (x .ensures)
+    (c .enum-told3 .given .1) in
+    let e : read-olds (m b) (a d) (back (J s) (p₂ d)) (Acc s) ≡ broken = rw (← same-acc s (m b) (few d)) (o .0) in (
+      run-olds-broken (s .args .lim) (s .args .room) (Z s) (Acc s) (m b) (back (J s) (p₁ b)) (g₁ b .0) (some d) (few d) (a d) (back (J s) (p₂ d))
+          (g₂ d .0) low e,
+      o .1,
+    )
 
 returns-7 : tie.Need-returns-7
 returns-7 c =
@@ -130,8 +142,10 @@ returns-7 c =
     let at = s .args .room - m b in
     let p = c .before .s .given .0 .0 in
     let o = olds-from (J s) (p₂ d) (m b) (a d) (now (s .args .out)) at out (x .result) (x .ensures) p (c .before .s .given .1) in
-    let e : read-olds (m b) (a d) (back (J s) (p₂ d)) (Acc s) ≡ parsed (between at byte-limit out) (back (J s) p) = rw (← same-acc s (m b) (few d)) (o .0) in (
-      (λ k. run-step k (s .args .lim) (s .args .room) (Z s) (Acc s) (m b) (back (J s) (p₁ b)) (a d) (back (J s) (p₂ d)) (between at byte-limit out) (back (J s) p) (g₁ b .0) (some d) (few d) (g₂ d .0) low e),
+    let e : read-olds (m b) (a d) (back (J s) (p₂ d)) (Acc s)
+    ≡ parsed (between at byte-limit out) (back (J s) p) = rw (← same-acc s (m b) (few d)) (o .0) in (
+      (λ k. run-step k (s .args .lim) (s .args .room) (Z s) (Acc s) (m b) (back (J s) (p₁ b)) (a d) (back (J s) (p₂ d)) (between at byte-limit out)
+          (back (J s) p) (g₁ b .0) (some d) (few d) (g₂ d .0) low e),
       omega (arith, o .1, g₁ b .1, g₂ d .1),
       omega arith,
       omega (arith, low),

@@ -42,7 +42,8 @@ returns c =
     let j = now (s .args .journal) in
     let x = c .before .before .before .before .read-run in
     let g = run-broken j (q .e) (q .lim) (q .room) (q .out) (x .last .1 .1 .1 .1 .0) (x .result) (x .ensures) (c .enum-told .given .1) in
-    q .inv .5 ∙ runs-none (q .k) (q .lim) (q .room) (back j (q .e)) (between (q .room) byte-limit (q .out)) (c .before .before .before .before .before .before .loop-test .taken) (g .0)
+    q .inv .5 ∙ runs-none (q .k) (q .lim) (q .room) (back j (q .e)) (between (q .room) byte-limit (q .out))
+    (c .before .before .before .before .before .before .loop-test .taken) (g .0)
 
 loop-again : tie.Need-loop-again Inv-loop μ-loop
 loop-again c =
@@ -60,7 +61,8 @@ loop-again c =
       g .4 ∙ q .inv .2,
       omega (arith, g .3),
       omega (arith, g .2),
-      q .inv .5 ∙ runs-next (q .k) (q .lim) (q .room) (back j (q .e)) (between (q .room) byte-limit (q .out)) a at (back j p) (between at byte-limit out) (c .before .before .before .before .before .before .before .loop-test .taken) (g .0),
+      q .inv .5 ∙ runs-next (q .k) (q .lim) (q .room) (back j (q .e)) (between (q .room) byte-limit (q .out)) a at (back j p)
+          (between at byte-limit out) (c .before .before .before .before .before .before .before .loop-test .taken) (g .0),
     )
 
 returns-2 : tie.Need-returns-2 Inv-loop μ-loop

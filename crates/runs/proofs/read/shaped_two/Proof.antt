@@ -13,7 +13,8 @@ use Rattle.undo.proofs.ReadLaws.{number-bad, number-got, run-from}
 use Rattle.undo.proofs.ReadLaws as undo-laws
 use Rattle.runs.specs.Runs.{read-runs}
 use Rattle.codes.specs.Codes.{Addresses}
-use Rattle.runs.proofs.StepLaws.{runs-broken, runs-from, two-bad, two-many, two-bad-2, two-many-2, two-broken, two-broken-2, two-invalid, two-shaped}
+use Rattle.runs.proofs.StepLaws.{runs-broken, runs-from, two-bad, two-many, two-bad-2}
+use Rattle.runs.proofs.StepLaws.{two-many-2, two-broken, two-broken-2, two-invalid, two-shaped}
 use borrow.Author.Needs.{needs}
 use Rattle.runs.proofs.read.shaped_two.Statement.{statement}
 use Rattle.runs.proofs.read.shaped_two.Tie as tie
@@ -72,8 +73,10 @@ module _ (c : tie.After-e3) where
   few₂ : ns b₃ ≤ slot-limit
   few₂ = c .before .before .before .before .before .before .if2 .left
 
-  g₃ : (read-runs (nr (b₂ b₃)) (suc Addresses) byte-limit (back (J (s₁ (b₂ b₃))) (p₂ b₃)) [] ≡ parsed (between i₃ byte-limit out₃) (back (J (s₁ (b₂ b₃))) p₃)) × (p₃ ≤ p₂ b₃) × (i₃ ≤ byte-limit)
-  g₃ = let x = c .before .before .before .before .read-runs in runs-from (J (s₁ (b₂ b₃))) (p₂ b₃) (nr (b₂ b₃)) out₃ (x .result) (x .ensures) p₃ i₃ (c .e3 .given .1)
+  g₃ : (read-runs (nr (b₂ b₃)) (suc Addresses) byte-limit (back (J (s₁ (b₂ b₃))) (p₂ b₃)) []
+      ≡ parsed (between i₃ byte-limit out₃) (back (J (s₁ (b₂ b₃))) p₃)) × (p₃ ≤ p₂ b₃) × (i₃ ≤ byte-limit)
+  g₃ = let x = c .before .before .before .before .read-runs in
+      runs-from (J (s₁ (b₂ b₃))) (p₂ b₃) (nr (b₂ b₃)) out₃ (x .result) (x .ensures) p₃ i₃ (c .e3 .given .1)
 
 -- the slots' changes
 module _ (c : tie.After-e4) where
@@ -86,7 +89,8 @@ module _ (c : tie.After-e4) where
   abbrev p₄ : ℕ
   p₄ = c .e4 .given .0 .0
 
-  g₄ : (read-changes (ns (b₃ b₄)) slot-limit (back (J (s₁ (b₂ (b₃ b₄)))) (p₃ b₄)) [] ≡ parsed (changes out₄ (ns (b₃ b₄))) (back (J (s₁ (b₂ (b₃ b₄)))) p₄)) × (p₄ ≤ p₃ b₄) × Ascending 0 slot-limit (changes out₄ (ns (b₃ b₄)))
+  g₄ : (read-changes (ns (b₃ b₄)) slot-limit (back (J (s₁ (b₂ (b₃ b₄)))) (p₃ b₄)) []
+      ≡ parsed (changes out₄ (ns (b₃ b₄))) (back (J (s₁ (b₂ (b₃ b₄)))) p₄)) × (p₄ ≤ p₃ b₄) × Ascending 0 slot-limit (changes out₄ (ns (b₃ b₄)))
   g₄ =
       let x = c .before .before .before .before .read-changes in
       run-from (J (s₁ (b₂ (b₃ b₄)))) (p₃ b₄) (ns (b₃ b₄)) slot-limit out₄ (x .result) (x .ensures) p₄ (c .e4 .given .1)
@@ -110,7 +114,8 @@ returns-3 c =
     let b = c .before .before .before .before .before in
     let j = J (s₁ b) in
     let t = c .before .before .read-number2 in
-    two-bad-2 (Z (s₁ b)) (nr b) (back j (p₁ b)) (g₁ b .0) (c .before .before .before .if1 .left) (number-bad j (p₁ b) (t .result) (t .ensures) (c .enum-told2 .given .1))
+    two-bad-2 (Z (s₁ b)) (nr b) (back j (p₁ b)) (g₁ b .0) (c .before .before .before .if1 .left)
+    (number-bad j (p₁ b) (t .result) (t .ensures) (c .enum-told2 .given .1))
 
 returns-4 : tie.Need-returns-4
 returns-4 c =
@@ -130,7 +135,8 @@ returns-5 c =
     let b = b₂ d in
     let j = J (s₁ b) in
     let x = c .before .before .before .before .read-runs in
-    two-broken (Z (s₁ b)) (nr b) (back j (p₁ b)) (g₁ b .0) (few d) (ns d) (back j (p₂ d)) (g₂ d .0) (c .before .before .before .before .before .before .if2 .left)
+    two-broken (Z (s₁ b)) (nr b) (back j (p₁ b)) (g₁ b .0) (few d) (ns d) (back j (p₂ d)) (g₂ d .0)
+    (c .before .before .before .before .before .before .if2 .left)
     (runs-broken j (p₂ d) (nr b) (x .last .1 .1 .1 .0) (x .result) (x .ensures) (c .enum-told3 .given .1))
 
 read-changes-requires : tie.Need-read-changes-requires
@@ -146,7 +152,8 @@ returns-6 c =
     let b = b₂ d in
     let j = J (s₁ b) in
     let x = c .before .before .before .before .read-changes in
-    two-broken-2 (Z (s₁ b)) (nr b) (back j (p₁ b)) (g₁ b .0) (few d) (ns d) (back j (p₂ d)) (g₂ d .0) (few₂ e) (between (i₃ e) byte-limit (out₃ e)) (back j (p₃ e)) (g₃ e .0)
+    two-broken-2 (Z (s₁ b)) (nr b) (back j (p₁ b)) (g₁ b .0) (few d) (ns d) (back j (p₂ d)) (g₂ d .0) (few₂ e) (between (i₃ e) byte-limit (out₃ e))
+    (back j (p₃ e)) (g₃ e .0)
     (undo-laws.run-broken j (p₃ e) (ns d) slot-limit (x .last .1 .1 .1 .1 .0) (x .result) (x .ensures) (c .enum-told4 .given .1))
 
 returns-7 : tie.Need-returns-7
@@ -157,7 +164,8 @@ returns-7 c =
     let b = b₂ d in
     let j = J (s₁ b) in
     let x = c .before .all-valid in
-    two-invalid (Z (s₁ b)) (nr b) (back j (p₁ b)) (g₁ b .0) (few d) (ns d) (back j (p₂ d)) (g₂ d .0) (few₂ e) (between (i₃ e) byte-limit (out₃ e)) (back j (p₃ e)) (g₃ e .0)
+    two-invalid (Z (s₁ b)) (nr b) (back j (p₁ b)) (g₁ b .0) (few d) (ns d) (back j (p₂ d)) (g₂ d .0) (few₂ e) (between (i₃ e) byte-limit (out₃ e))
+    (back j (p₃ e)) (g₃ e .0)
     (changes (out₄ f) (ns d)) (back j (p₄ f)) (g₄ f .0) (sym (x .ensures) ∙ not-true (x .result) (c .if3 .taken))
 
 returns-8 : tie.Need-returns-8
@@ -168,7 +176,8 @@ returns-8 c =
     let b = b₂ d in
     let j = J (s₁ b) in
     let x = c .before .all-valid in (
-      two-shaped (Z (s₁ b)) (nr b) (back j (p₁ b)) (g₁ b .0) (few d) (ns d) (back j (p₂ d)) (g₂ d .0) (few₂ e) (between (i₃ e) byte-limit (out₃ e)) (back j (p₃ e)) (g₃ e .0)
+      two-shaped (Z (s₁ b)) (nr b) (back j (p₁ b)) (g₁ b .0) (few d) (ns d) (back j (p₂ d)) (g₂ d .0) (few₂ e) (between (i₃ e) byte-limit (out₃ e))
+          (back j (p₃ e)) (g₃ e .0)
           (changes (out₄ f) (ns d)) (back j (p₄ f)) (g₄ f .0) (sym (x .ensures) ∙ not-false (x .result) (c .if3 .left)),
       omega (arith, g₁ b .1, g₂ d .1, g₃ e .1, g₄ f .1),
       few₂ e,
