@@ -1,5 +1,6 @@
 -- JournalLaws.antt - a whole journal in either form: it reads as what it was made of, and comes back byte for byte through the other form.
 -- * rows-of-journal, journal-of-rows: a journal of well-shaped records, and no other, reads as them.
+-- * shaped-for-posting: where records could be dropped for want of room, they can be posted.
 -- * convert-unique; convert-cases: a conversion is one of three things.   * there-and-back, back-when-done: the way back.
 -- * never-short-to-two, never-short-to-one: targets that are always long enough.
 -- Speaks of: rows-in and convert of specs/Forms.antt.  Assumes nothing.  Source: [K8].
@@ -15,8 +16,9 @@ use borrow.Author.Tests.{le-leb, lt-leb, leb-true, leb-false}
 use Rattle.codes.specs.Codes.{Addresses}
 use Rattle.numbers.specs.Number.{back, written}
 use Rattle.numbers.proofs.NumberLaws.{Bytes}
-use Rattle.oldest.specs.Room.{Row, Way, rows, torn, read-rows}
-use Rattle.oldest.proofs.RowLaws.{AllGood, older-when-read, all-read}
+use Rattle.record.proofs.ChangeLaws.{ascending-weaken}
+use Rattle.oldest.specs.Room.{Row, Way, rows, torn, read-rows, rows-of}
+use Rattle.oldest.proofs.RowLaws.{AllGood, older-when-read, all-read, bytes-of-rows}
 use Rattle.oldest.proofs.OctetLaws.{bytes-of-back}
 use Rattle.runs.proofs.GrowthLaws.{two-at-most, one-at-most}
 use Rattle.forms.specs.declared.Form.{Form}
@@ -43,6 +45,29 @@ journal-of-rows form j rs e h =
     (back j (length j)) [] rs e (bytes-of-back j (length j) h (omega arith)) in
     let same : rs ≡ w .0 = w .1 ∙ append-nil (w .0) in
     (sym (reverse-reverse j) ∙ ap reverse (sym (back-whole j)) ∙ w .2 ∙ ap (journal-in form) (sym same), rw same (w .3))
+
+-- ---- a journal that is well shaped for its memory, as making room asks it, is well shaped for posting
+good-wider : (len top : ℕ) (rs : List Row) → len ≤ top → AllGood len rs → AllGood top rs
+good-wider len top [] h g = tt
+good-wider len top (r ∷ rs) h g = (
+  record {
+    few-slots = g .0 .few-slots;
+    few-bytes = g .0 .few-bytes;
+    slots-ascend = g .0 .slots-ascend;
+    bytes-ascend = ascending-weaken 0 len top (r .bytes) h (g .0 .bytes-ascend);
+    slots-small = g .0 .slots-small;
+    bytes-small = g .0 .bytes-small;
+    slots-valid = g .0 .slots-valid;
+    bytes-valid = g .0 .bytes-valid;
+  },
+  good-wider len top rs h (g .1),
+)
+
+pub shaped-for-posting : (len : ℕ) (j : List ℕ) (mark : ℕ) (rs : List Row) → len ≤ Addresses → mark ≤ length j → Bytes j
+    → rows-of len j mark ≡ rows rs → rows-in One (take mark j) ≡ rows rs
+shaped-for-posting len j mark rs h inside b e =
+    let w = bytes-of-rows len j mark rs e (bytes-of-back j mark b inside) in
+    ap (rows-in One) (w .0) ∙ rows-of-journal One rs (good-wider len Addresses rs h (w .1))
 
 -- ---- what a conversion promises is all that it does
 pub convert-unique : (from : Form) (j t t₁ : List ℕ) (a₁ : FormAnswer) (t₂ : List ℕ) (a₂ : FormAnswer)
