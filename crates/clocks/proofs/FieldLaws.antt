@@ -1,31 +1,17 @@
 -- FieldLaws.antt - laws that go by the six bits of an effective address: a test of each of the 64 says them of every operation word.
--- all-below, at-below: such a test; place-of-field; direct-field; register-time; direct-register, -immediate, -memory.
+-- place-of-field; direct-field; register-time; direct-register, -immediate, -memory.
 -- Uses: bits.
-use Prim.Native.Nat.{ℕ, zero, suc, _+_, _*_, _%_, _/_, _<_}
+use Prim.Native.Nat.{ℕ, _+_, _*_, _%_, _/_, _<_}
 use native.Mathlib.Omega.{arith}
-use native.Mathlib.Nat.{eq-or-lt-of-le, le-of-suc-le-suc}
-use mathlib.Core.Path.{_≡_, refl, sym, ap, _∙_, subst}
-use mathlib.Core.Logic.{⊎-elim}
-use mathlib.Core.Bool.{Bool, true, false, _&&_, _||_, not}
+use mathlib.Core.Path.{_≡_, refl, sym, ap, _∙_}
+use mathlib.Core.Bool.{Bool, true, false, _||_, not}
 use lib.ListN.{getD}
 use lib.Dec.{ltb, eqb}
 use borrow.Author.Tests.{eqb-true, eqb-false, lt-ltb, le-ltb}
-use Rattle.bits.specs.Bits.{bit}
-use Rattle.bits.proofs.BitsLaws.{and-left, and-right}
+use Rattle.bits.specs.Bits.{bit, all-below}
+use Rattle.bits.proofs.BitsLaws.{at-below}
 use Rattle.clocks.specs.Tables.{operand-table}
 use Rattle.clocks.specs.Clocks.{place, place-of, operand-clocks, direct}
-
--- a test holds of every number below n
-unfoldable pub all-below : (ℕ → Bool) → ℕ → Bool
-all-below t zero = true
-all-below t (suc n) = t n && all-below t n
-
-pub at-below : (t : ℕ → Bool) (n : ℕ) → all-below t n ≡ true → (i : ℕ) → i < n → t i ≡ true
-unfolding all-below
-at-below t zero h i l = absurd (omega arith)
-at-below t (suc n) h i l =
-    ⊎-elim (λ (e : i ≡ n). subst (λ (k : ℕ). t k ≡ true) (sym e) (and-left (t n) (all-below t n) h))
-    (λ (b : i < n). at-below t n (and-right (t n) (all-below t n) h) i b) (eq-or-lt-of-le (le-of-suc-le-suc l))
 
 -- two tests agree
 unfoldable pub same : Bool → Bool → Bool

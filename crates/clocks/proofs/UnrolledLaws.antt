@@ -8,11 +8,12 @@ use mathlib.Core.Bool.{Bool, true, false, not}
 use lib.ListN.{getD}
 use lib.Dec.{ltb, eqb}
 use borrow.Author.Tests.{eqb-true}
-use Rattle.bits.specs.Bits.{bit}
+use Rattle.bits.specs.Bits.{bit, all-below}
+use Rattle.bits.proofs.BitsLaws.{at-below}
 use Rattle.clocks.specs.Tables.{destination-table}
 use Rattle.clocks.specs.Clocks.{place, operand-clocks, moved}
 use Rattle.clocks.specs.Unrolled.{source-rows, destination-rows}
-use Rattle.clocks.proofs.FieldLaws.{all-below, at-below, time-of-field}
+use Rattle.clocks.proofs.FieldLaws.{time-of-field}
 
 -- the same where two numbers are, at each of the 64
 agree : (g h : ℕ → ℕ) → all-below (λ (i : ℕ). eqb (g i) (h i)) 64 ≡ true → (i : ℕ) → i < 64 → g i ≡ h i

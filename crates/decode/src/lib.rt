@@ -5,9 +5,9 @@ ghost use mathlib.Core.Path.{_≡_};
 ghost use Rattle.decode.specs.Rows.{kind-of, privileged};
 ghost use Rattle.decode.specs.Chain.{of-word};
 
-mod classes;
+pub mod classes;
 pub mod kinds;
-mod line_four;
+pub mod line_four;
 mod lines;
 
 // the kind of a word of sixteen bits, by its line

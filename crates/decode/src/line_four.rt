@@ -57,7 +57,7 @@ fn single(op: u32) -> u32
 }
 
 // $4E40 to $4E7F
-fn four_e(op: u32) -> u32
+pub fn four_e(op: u32) -> u32
     ensures { λ k. ⌜ k ≡ four-e op ⌝ }
 {
     match op / 8 % 8 {

@@ -1,6 +1,6 @@
 // lib.rt - the instruction of an operation word: its kind, whether it may be done in this state, the family's function, and its clocks.
 // Means: specs/Dispatch.antt.  Laws: proofs/DispatchLaws.antt, proofs/ClockLaws.antt.
-// Uses: codes, bus, operand, plan, timing, decode, movement, control.  Source: [01 step 2], [01 step 4], [003 4.4.7], [K2].
+// Uses: codes, bus, operand, plan, timing, decode, kind_table, movement, control.  Source: [01 step 2], [01 step 4], [003 4.4.7], [K2].
 ghost use mathlib.Core.Path.{_≡_};
 ghost use mathlib.Core.List.{map};
 ghost use Prim.Native.Nat.{_%_, _/_, _<_, _≤_};
@@ -92,7 +92,7 @@ pub fn execute(r: &mut [u32; SLOTS], mem: &Parts, op: u32, f: Flow) -> Timed
     ensures { λ t. ⌜ record { r = now (r .exit); p = t .plan } ≡ execute (now (r .entry)) (view-of (map now (now (mem .entry)))) op f ⌝ }
     ensures { λ t. ⌜ t .clocks ≡ own-clocks (now (r .entry)) (view-of (map now (now (mem .entry)))) op f ⌝ }
 {
-    let k = decode::kind_of(op);
+    let k = kind_table::kind_of(op);
     let branches = (k == kinds::BCC) | (k == kinds::BRA);
     if branches {
         let p = control::branch(mem, op, f);

@@ -1,6 +1,6 @@
 // main.rt - prints the kinds of all 65,536 operation words as runs of equal names, a line to a run: first word, last word, name.
 // Means: nothing; its stored output is made from a list of names that is not ours, and shows no difference.
-// Uses: decode, io.  Source: [003 B], the names' parts.
+// Uses: decode, kind_table, io.  Source: [003 B], the names' parts; [K9].
 ghost use Prim.Native.Nat.{_<_};
 
 mod names;
@@ -43,9 +43,19 @@ fn turn(first: u32, op: u32) -> u32
     next
 }
 
+// The names are told by the table; a line more says where the chain of tests tells another kind.
+fn hold(op: u32) {
+    if decode::kind_of(op) != kind_table::kind_of(op) {
+        io::write_all(1, b"the chain differs at ");
+        write_word(op);
+        io::write_all(1, b"\n");
+    }
+}
+
 fn main() {
     let mut first: u32 = 0;
     for op in 0..65536u32 {
+        hold(op);
         first = turn(first, op);
     }
 }

@@ -1,6 +1,6 @@
 // names.rt - the name of an operation word as two numbers, stem and ending, and the two as text.
 // Means: nothing; see main.rt.
-// Uses: decode, io.  Source: [003 B], [003 A-2] the conditions' letters.
+// Uses: decode, kind_table, io.  Source: [003 B], [003 A-2] the conditions' letters.
 use decode::kinds;
 
 // stems that no kind has: BTST BCHG BCLR BSET, then ASR ASL LSR LSL ROXR ROXL ROR ROL
@@ -26,7 +26,7 @@ fn namesake(kind: u32) -> u32 {
 
 // which of the names' stems: a kind, or one of the stems above
 fn stem(op: u32) -> u32 {
-    let kind = decode::kind_of(op);
+    let kind = kind_table::kind_of(op);
     match kind {
         kinds::BIT_DYNAMIC | kinds::BIT_STATIC => BIT_TEST + op / 64 % 4,
         kinds::SHIFT_REGISTER => SHIFT + op / 8 % 4 * 2 + op / 256 % 2,
@@ -46,7 +46,7 @@ fn move_size(op: u32) -> u32 {
 
 // which ending: 0 none, 1 to 3 a size, from 4 a condition
 fn ending(op: u32) -> u32 {
-    match namesake(decode::kind_of(op)) {
+    match namesake(kind_table::kind_of(op)) {
         kinds::MOVE | kinds::MOVE_A => move_size(op),
         kinds::MOVE_M_TO_MEMORY
         | kinds::MOVE_M_TO_REGISTERS

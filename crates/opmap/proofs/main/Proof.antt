@@ -1,5 +1,6 @@
 use Prim.Native.Nat.{_≤_, _-_}
 use native.Mathlib.Omega.{arith}
+use borrow.Author.Needs.{needs}
 use Rattle.opmap.proofs.main.Statement.{statement}
 use Rattle.opmap.proofs.main.Tie as tie
 
@@ -16,6 +17,7 @@ main-spec =
     Inv-loop
     μ-loop
     (λ c. omega arith)
+    (λ c κs. search needs)
     (λ c κs. omega arith)
     (λ c. omega arith)
     (λ c. omega arith)
