@@ -1,14 +1,16 @@
 #!/usr/bin/env python3
-# kind_table.py - writes crates/kind_table/src/table.rt out of crates/kind_table/specs/Table.antt: for each entry the places that have it.
-# Means: nothing; what it writes is proved (crate kind_table). By hand, after the table changed or `rt fmt` has broken the file's rows.
+# kind_table.py - writes src/table.rt and proofs/table/entry/Proof.antt of crate kind_table out of its specs/Table.antt.
+# Means: nothing; what it writes is proved. By hand, after the table changed, or after `rt fmt` has broken the rows of table.rt.
 # Source: [K9].
 import os
 import re
 
 root = os.path.join(os.path.dirname(os.path.abspath(__file__)), "..", "crates")
-ROW = 20  # places to a row at most
+DECIDE = 128  # an entry below is a kind
+PLACES = 20  # in a row of table.rt at most
+ANSWERS = 5  # in a row of the proof
 
-HEAD = """// table.rt - the table of 1,024 entries, chosen by the word divided by 64, as a `match`: each entry, and the places that have it.
+CODE = """// table.rt - the table of 1,024 entries, chosen by the word divided by 64, as a `match`: each entry, and the places that have it.
 // Means: entries in specs/Table.antt, out of which tools/kind_table.py writes this file; `rt fmt` would give each place a line.
 // Uses: decode.  Source: [K9].
 // A `match` is kept as data, and costs no copy. Even places stand before odd ones, since of neighbours the kit makes a range, which is
@@ -22,26 +24,55 @@ pub fn entry(h: u32) -> u32
     ensures { λ e. ⌜ e ≡ entry-at h ⌝ }
 {
     match h {
+%s
+        _ => kinds::LINE_F,
+    }
+}
+"""
+
+PROOF = """use Rattle.kind_table.specs.Table.{entries}
+use Rattle.kind_table.proofs.PlaceLaws.{places, arms, entry-at-even, entry-at-odd, entry-past}
+use Rattle.kind_table.proofs.table.entry.Statement.{statement}
+use Rattle.kind_table.proofs.table.entry.Tie as tie
+
+pub entry-spec : {M : Type 1} → statement M
+unfolding places entries arms
+entry-spec =
+    tie.close (tie.spec
+%s)
 """
 
 
+def path(*names):
+    return os.path.join(root, *names)
+
+
 def read(*names):
-    with open(os.path.join(root, *names), encoding="utf-8") as file:
+    with open(path(*names), encoding="utf-8") as file:
         return file.read()
+
+
+def write(text, *names):
+    with open(path(*names), "w", encoding="utf-8") as file:
+        file.write(text)
+
+
+def rows(items, most, between):
+    return [between.join(items[i : i + most]) for i in range(0, len(items), most)]
 
 
 entries = [int(n) for n in re.findall(r"(\d+) ∷", read("kind_table", "specs", "Table.antt"))]
 assert len(entries) == 1024, len(entries)
 kinds = {int(n): name for name, n in re.findall(r"pub const (\w+): u32 = (\d+);", read("decode", "src", "kinds.rt"))}
 
-rows = [HEAD]
+arms, answers = [], []
 for entry in sorted(set(entries)):
-    for parity in range(2):
+    for parity, law in enumerate(("entry-at-even", "entry-at-odd")):
         places = [str(h) for h, e in enumerate(entries) if e == entry and h % 2 == parity]
-        told = "kinds::" + kinds[entry] if entry < 128 else str(entry)
-        lines = [" | ".join(places[i : i + ROW]) for i in range(0, len(places), ROW)]
-        if lines:
-            rows.append("        " + "\n        | ".join(lines) + f" => {told},\n")
-rows.append("        _ => kinds::LINE_F,\n    }\n}\n")
-with open(os.path.join(root, "kind_table", "src", "table.rt"), "w", encoding="utf-8") as file:
-    file.write("".join(rows))
+        if places:
+            told = "kinds::" + kinds[entry] if entry < DECIDE else str(entry)
+            arms.append("        " + "\n        | ".join(rows(places, PLACES, " | ")) + f" => {told},")
+            answers.append(f"(λ c. search {law})")
+answers.append("(λ c. entry-past (c .before .args .h) (c .match .rest))")
+write(CODE % "\n".join(arms), "kind_table", "src", "table.rt")
+write(PROOF % "\n".join("    " + row for row in rows(answers, ANSWERS, " ")), "kind_table", "proofs", "table", "entry", "Proof.antt")
