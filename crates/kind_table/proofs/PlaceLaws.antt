@@ -1,173 +1,157 @@
--- PlaceLaws.antt - the table as the code's `match` has it: each entry with the places that have it, the even ones and the odd ones apart.
--- States: passes-from: a test of every entry; entry-at-even, entry-at-odd, entry-past: what one arm gives, and what the `_` gives.
--- Uses: decode, Table.  Source: [ours].
-use mathlib.Core.Path.{_≡_, refl, sym}
-use mathlib.Core.Bool.{Bool, true, false, _&&_}
+-- PlaceLaws.antt - the table as the code's `match` has it: an arm for each entry among the eight places of a line and of bits 8 to 6.
+-- States: entry-at-place, entry-past: what one arm gives, and what the `_` gives.
+-- Uses: bits, decode, Table.  Source: [ours].
+use mathlib.Core.Path.{_≡_, refl, sym, subst}
+use mathlib.Core.Bool.{Bool, true, false, not}
 use mathlib.Core.List.{List, [], _∷_}
 use mathlib.Core.Logic.{_⊎_, inl, inr, ⊎-elim}
-use Prim.Native.Nat.{ℕ, zero, suc, _+_, _-_, _%_, _<_, _≤_}
-use native.Mathlib.Nat.{add-zero, add-suc, suc-add, le-of-suc-le-suc, not-suc-le-zero}
+use Prim.Native.Nat.{ℕ, zero, suc, _+_, _*_, _/_, _%_, _<_}
+use native.Mathlib.Nat.{zero-add}
 use native.Mathlib.Omega.{arith}
 use lib.Dec.{eqb, ltb}
 use lib.ListN.{getD, length, List·getD-eq-default}
 use mir.Val.{hasKey}
 use types.Run.{OneOf}
 use borrow.Author.Tests.{eqb-true, eqb-false, eq-eqb, ltb-true, ltb-false}
-use Rattle.bits.proofs.BitsLaws.{and-left, and-right}
+use Rattle.bits.specs.Bits.{all-below}
+use Rattle.bits.proofs.BitsLaws.{at-below}
 use Rattle.decode.specs.Kinds as k
-use Rattle.kind_table.specs.Table.{decide, entries, entry-at}
+use Rattle.decode.proofs.RowsLaws.{keep}
+use Rattle.kind_table.specs.Table.{entries, entry-at}
 
--- ---- a test of every entry
+-- the r-th place of group g: the line and bits 8 to 6 are g's, bits 11 to 9 are r
+abbrev pub place : ℕ → ℕ → ℕ
+place g r = g / 8 * 64 + r * 8 + g % 8
 
--- f passes at each entry and its place, counted from i
-unfoldable pub passes : (ℕ → ℕ → Bool) → ℕ → List ℕ → Bool
-passes f i [] = true
-passes f i (n ∷ ns) = f i n && passes f (suc i) ns
+-- the places of g, n of them from r on, whose entry is v
+unfoldable pub places : ℕ → ℕ → ℕ → ℕ → List ℕ
+places v g r zero = []
+places v g r (suc n) = keep (eqb (entry-at (place g r)) v) (place g r) (places v g (suc r) n)
 
-pub passes-from : (f : ℕ → ℕ → Bool) (ns : List ℕ) (d i : ℕ) → passes f i ns ≡ true → (j : ℕ) → j < length ns → f (i + j) (getD ns j d) ≡ true
-unfolding passes
-passes-from f [] d i t j h = absurd (not-suc-le-zero h)
-passes-from f (n ∷ ns) d i t zero h = rw (add-zero i) (and-left (f i n) (passes f (suc i) ns) t)
-passes-from f (n ∷ ns) d i t (suc j) h =
-    rw (add-suc i j, ← suc-add i j) (passes-from f ns d (suc i) (and-right (f i n) (passes f (suc i) ns) t) j (le-of-suc-le-suc h))
+-- ---- what one arm gives
 
-pub entries-length : length entries ≡ 1024
-unfolding entries
-entries-length = refl
-
--- ---- the places of an entry
-
-abbrev keep : Bool → ℕ → List ℕ → List ℕ
-keep true i is = i ∷ is
-keep false i is = is
-
--- the places from i on, with remainder p by 2, whose entry in this list is v
-unfoldable pub places : List ℕ → ℕ → ℕ → ℕ → List ℕ
-places [] i v p = []
-places (e ∷ es) i v p = keep (eqb e v && eqb (i % 2) p) i (places es (suc i) v p)
-
--- one of a list is its first or one of the others, and either is one of it
 one-of-first : (i : ℕ) (is : List ℕ) (h : ℕ) → OneOf (i ∷ is) h → (h ≡ i) ⊎ OneOf is h
 one-of-first i [] h x = inl x
 one-of-first i (j ∷ is) h x = x
 
-one-of-rest : (i : ℕ) (is : List ℕ) (h : ℕ) → OneOf is h → OneOf (i ∷ is) h
-one-of-rest i [] h x = absurd x
-one-of-rest i (j ∷ is) h x = inr x
+kept-tells : (b : Bool) (i : ℕ) (is : List ℕ) (h : ℕ) → OneOf (keep b i is) h → ((b ≡ true) × (h ≡ i)) ⊎ OneOf is h
+kept-tells true i is h x = ⊎-elim (λ (e : h ≡ i). inl (refl, e)) (λ (y : OneOf is h). inr y) (one-of-first i is h x)
+kept-tells false i is h x = inr x
+
+places-tell : (v g r n h : ℕ) → OneOf (places v g r n) h → v ≡ entry-at h
+unfolding places
+places-tell v g r zero h x = absurd x
+places-tell v g r (suc n) h x =
+    ⊎-elim (λ (y : (eqb (entry-at (place g r)) v ≡ true) × (h ≡ place g r)). rw (y .1) (sym (eqb-true (entry-at (place g r)) v (y .0))))
+    (λ (y : OneOf (places v g (suc r) n) h). places-tell v g (suc r) n h y)
+    (kept-tells (eqb (entry-at (place g r)) v) (place g r) (places v g (suc r) n) h x)
+
+pub entry-at-place : (g v h : ℕ) → OneOf (places v g 0 8) h → v ≡ entry-at h
+entry-at-place g v h x = places-tell v g 0 8 h x
+
+-- ---- what the `_` gives: each place below 1,024 stands in some arm
 
 one-of-own : (i : ℕ) (is : List ℕ) → OneOf (i ∷ is) i
 one-of-own i [] = refl
 one-of-own i (j ∷ is) = inl refl
 
--- ---- what one arm gives
-keep-place : (b : Bool) (i : ℕ) (is : List ℕ) (h : ℕ) → OneOf (keep b i is) h → ((b ≡ true) × (h ≡ i)) ⊎ OneOf is h
-keep-place true i is h x = ⊎-elim (λ (e : h ≡ i). inl (refl, e)) (λ (y : OneOf is h). inr y) (one-of-first i is h x)
-keep-place false i is h x = inr x
+kept-rest : (b : Bool) (i : ℕ) (is : List ℕ) (h : ℕ) → OneOf is h → OneOf (keep b i is) h
+kept-rest true i [] h x = absurd x
+kept-rest true i (j ∷ is) h x = inr x
+kept-rest false i is h x = x
 
-keep-rest : (b : Bool) (i : ℕ) (is : List ℕ) (h : ℕ) → OneOf is h → OneOf (keep b i is) h
-keep-rest true i is h x = one-of-rest i is h x
-keep-rest false i is h x = x
-
-places-tell : (es : List ℕ) (d i v p h : ℕ) → OneOf (places es i v p) h → (i ≤ h) × (getD es (h - i) d ≡ v)
+places-have : (g r n j : ℕ) → j < n → OneOf (places (entry-at (place g (r + j))) g r n) (place g (r + j))
 unfolding places
-places-tell [] d i v p h x = absurd x
-places-tell (e ∷ es) d i v p h x =
-    ⊎-elim (λ (y : ((eqb e v && eqb (i % 2) p) ≡ true) × (h ≡ i)).
-    let z : h - i ≡ 0 = omega (arith, y .1) in (omega (arith, y .1), rw z (eqb-true e v (and-left (eqb e v) (eqb (i % 2) p) (y .0)))))
-    (λ (y : OneOf (places es (suc i) v p) h).
-    let q = places-tell es d (suc i) v p h y in
-    let z : h - i ≡ suc (h - suc i) = omega (arith, q .0) in (omega (arith, q .0), rw z (q .1)))
-    (keep-place (eqb e v && eqb (i % 2) p) i (places es (suc i) v p) h x)
+places-have g r zero j l = absurd (omega arith)
+places-have g r (suc n) zero l =
+    let z : r + 0 ≡ r = omega arith in
+    let e = entry-at (place g r) in
+    rw (z, eq-eqb e e refl) (one-of-own (place g r) (places e g (suc r) n))
+places-have g r (suc n) (suc j) l =
+    let z : r + suc j ≡ suc r + j = omega arith in
+    let e = entry-at (place g (suc r + j)) in
+    rw z (kept-rest (eqb (entry-at (place g r)) e) (place g r) (places e g (suc r) n) (place g (suc r + j))
+    (places-have g (suc r) n j (omega arith)))
 
-entry-at-place : (v p h : ℕ) → OneOf (places entries 0 v p) h → v ≡ entry-at h
-unfolding entry-at
-entry-at-place v p h x =
-    let z : h - 0 ≡ h = omega arith in rw z at (sym (places-tell entries k.LineF 0 v p h x .1))
+-- the entries of g's places, n of them from r on, each once: those that are new beside the ones seen
+unfoldable news : ℕ → ℕ → ℕ → List ℕ → List ℕ
+news g r zero seen = []
+news g r (suc n) seen =
+    let e : ℕ = entry-at (place g r) in keep (not (hasKey seen e)) e (news g (suc r) n (e ∷ seen))
 
-pub entry-at-even : (v h : ℕ) → OneOf (places entries 0 v 0) h → v ≡ entry-at h
-entry-at-even v h x = entry-at-place v 0 h x
+-- the arms of these entries of g put before others, the last one first
+unfoldable arms-of : ℕ → List ℕ → List (List ℕ) → List (List ℕ)
+arms-of g [] others = others
+arms-of g (v ∷ vs) others = arms-of g vs (places v g 0 8 ∷ others)
 
-pub entry-at-odd : (v h : ℕ) → OneOf (places entries 0 v 1) h → v ≡ entry-at h
-entry-at-odd v h x = entry-at-place v 1 h x
-
--- ---- what the `_` gives: each place below 1,024 stands in some arm
-
-places-have : (es : List ℕ) (d i j : ℕ) → j < length es → OneOf (places es i (getD es j d) ((i + j) % 2)) (i + j)
-unfolding places
-places-have [] d i j l = absurd (not-suc-le-zero l)
-places-have (e ∷ es) d i zero l =
-    let z : i + 0 ≡ i = omega arith in
-    rw (z, eq-eqb e e refl, eq-eqb (i % 2) (i % 2) refl) (one-of-own i (places es (suc i) e (i % 2)))
-places-have (e ∷ es) d i (suc j) l =
-    let z : i + suc j ≡ suc i + j = omega arith in
-    rw z (keep-rest (eqb e (getD es j d) && eqb (i % 2) ((suc i + j) % 2)) i (places es (suc i) (getD es j d) ((suc i + j) % 2)) (suc i + j)
-    (places-have es d (suc i) j (le-of-suc-le-suc l)))
-
-abbrev add : List ℕ → List (List ℕ) → List (List ℕ)
-add [] xss = xss
-add (i ∷ is) xss = (i ∷ is) ∷ xss
-
--- the arms of these entries, the last one first
-unfoldable pub arms : List ℕ → List (List ℕ)
-unfolding places entries
-arms [] = []
-arms (v ∷ vs) = add (places entries 0 v 1) (add (places entries 0 v 0) (arms vs))
+-- the arms of the groups below n, the last one first
+unfoldable pub arms : ℕ → List (List ℕ)
+unfolding news arms-of
+arms zero = []
+arms (suc g) = arms-of g (news g 0 8 []) (arms g)
 
 -- h is a place of none of these arms
 abbrev pub None-of : List (List ℕ) → ℕ → Type 0
 None-of [] h = Unit
-None-of (is ∷ xss) h = None-of xss h × (OneOf is h → ⊥)
+None-of (is ∷ others) h = None-of others h × (OneOf is h → ⊥)
 
-add-none : (is : List ℕ) (xss : List (List ℕ)) (h : ℕ) → None-of (add is xss) h → None-of xss h × (OneOf is h → ⊥)
-add-none [] xss h n = (n, λ x. x)
-add-none (i ∷ is) xss h n = n
+none-of-arms : (g : ℕ) (vs : List ℕ) (others : List (List ℕ)) (h : ℕ) → None-of (arms-of g vs others) h
+    → None-of others h × ((v : ℕ) → hasKey vs v ≡ true → OneOf (places v g 0 8) h → ⊥)
+unfolding arms-of
+none-of-arms g [] others h n = (n, λ v t. absurd (let z : _≡_ {A = ℕ} 0 1 = cc in omega arith))
+none-of-arms g (w ∷ vs) others h n =
+    let m = none-of-arms g vs (places w g 0 8 ∷ others) h n in (m .0 .0, λ v t. go v (eqb w v) refl t (m .0 .1) (m .1 v))
+  where
+    go : (v : ℕ) (b : Bool) → eqb w v ≡ b → hasKey (w ∷ vs) v ≡ true → (OneOf (places w g 0 8) h → ⊥)
+        → (hasKey vs v ≡ true → OneOf (places v g 0 8) h → ⊥) → OneOf (places v g 0 8) h → ⊥
+    go v true e t own f = rw (eqb-true w v e) at own
+    go v false e t own f = f (rw e at t)
 
--- the entries that there are, the last one first
-abbrev from-decide : ℕ → List ℕ
-from-decide zero = 64 ∷ 63 ∷ 62 ∷ 55 ∷ 5 ∷ 2 ∷ 1 ∷ 0 ∷ []
-from-decide (suc n) = (decide + n) ∷ from-decide n
-
-abbrev pub values : List ℕ
-values = from-decide 67
-
--- of an entry that is among these, a place of none of their arms is no place
-none-at : (vs : List ℕ) (v h : ℕ) → hasKey vs v ≡ true → None-of (arms vs) h
-    → (OneOf (places entries 0 v 0) h → ⊥) × (OneOf (places entries 0 v 1) h → ⊥)
+none-of-group : (n g h : ℕ) → g < n → None-of (arms n) h → (v : ℕ) → hasKey (news g 0 8 []) v ≡ true → OneOf (places v g 0 8) h → ⊥
 unfolding arms
-none-at [] v h t n = absurd (let z : _≡_ {A = ℕ} 0 1 = cc in omega arith)
-none-at (w ∷ vs) v h t n =
-    let a = add-none (places entries 0 w 1) (add (places entries 0 w 0) (arms vs)) h n in
-    let b = add-none (places entries 0 w 0) (arms vs) h (a .0) in
-    go (eqb w v) refl (a .1) (b .1) (λ u. none-at vs v h u (b .0))
+none-of-group zero g h l n = absurd (omega arith)
+none-of-group (suc m) g h l n = go (eqb g m) refl (none-of-arms m (news m 0 8 []) (arms m) h n) (λ p o. none-of-group m g h p o)
   where
-    go : (b : Bool) → eqb w v ≡ b → (OneOf (places entries 0 w 1) h → ⊥) → (OneOf (places entries 0 w 0) h → ⊥)
-        → (hasKey vs v ≡ true → (OneOf (places entries 0 v 0) h → ⊥) × (OneOf (places entries 0 v 1) h → ⊥))
-        → (OneOf (places entries 0 v 0) h → ⊥) × (OneOf (places entries 0 v 1) h → ⊥)
-    go true e odd even f = rw (← eqb-true w v e) (even, odd)
-    go false e odd even f = f (rw e at t)
+    go : (b : Bool) → eqb g m ≡ b → None-of (arms m) h × ((v : ℕ) → hasKey (news m 0 8 []) v ≡ true → OneOf (places v m 0 8) h → ⊥)
+        → (g < m → None-of (arms m) h → (v : ℕ) → hasKey (news g 0 8 []) v ≡ true → OneOf (places v g 0 8) h → ⊥)
+        → (v : ℕ) → hasKey (news g 0 8 []) v ≡ true → OneOf (places v g 0 8) h → ⊥
+    go true e q f = rw (eqb-true g m e) (q .1)
+    go false e q f = f (let z : g ≡ m → ⊥ = eqb-false g m e in omega arith) (q .0)
 
--- every entry of the table is among them
-all-among : passes (λ h e. hasKey values e) 0 entries ≡ true
-unfolding passes entries
-all-among = refl
+-- each entry of a group is among those: a computed test
+all-new : all-below (λ g. let vs : List ℕ = news g 0 8 [] in all-below (λ r. hasKey vs (entry-at (place g r))) 8) 128 ≡ true
+unfolding all-below news entry-at entries
+all-new = refl
 
-in-an-arm : (h : ℕ) → h < length entries → None-of (arms values) h → ⊥
-in-an-arm h l n = go (eqb (h % 2) 0) refl
-  where
-    own : OneOf (places entries 0 (getD entries h k.LineF) (h % 2)) h
-    own = let z : 0 + h ≡ h = omega arith in rw z at (places-have entries k.LineF 0 h l)
+entries-length : length entries ≡ 1024
+unfolding entries
+entries-length = refl
 
-    none : (OneOf (places entries 0 (getD entries h k.LineF) 0) h → ⊥) × (OneOf (places entries 0 (getD entries h k.LineF) 1) h → ⊥)
-    none = none-at values (getD entries h k.LineF) h (passes-from (λ h e. hasKey values e) entries k.LineF 0 all-among h l) n
+-- the group of a place
+abbrev group : ℕ → ℕ
+group h = h / 64 * 8 + h % 8
 
-    go : (b : Bool) → eqb (h % 2) 0 ≡ b → ⊥
-    go true e = none .0 (rw (eqb-true (h % 2) 0 e) at own)
-    go false e = none .1 (let z : h % 2 ≡ 1 = let y : h % 2 ≡ 0 → ⊥ = eqb-false (h % 2) 0 e in omega arith in rw z at own)
+group-below : (h : ℕ) → h < 1024 → group h < 128
+group-below h l = omega arith
 
-pub entry-past : (h : ℕ) → None-of (arms values) h → k.LineF ≡ entry-at h
+place-of-group : (h : ℕ) → place (group h) (h / 8 % 8) ≡ h
+place-of-group h = omega arith
+
+in-an-arm : (h : ℕ) → h < 1024 → None-of (arms 128) h → ⊥
+in-an-arm h l n =
+    let g : ℕ = group h in
+    let r : ℕ = h / 8 % 8 in
+    let b = group-below h l in
+    let c : r < 8 = omega arith in
+    let t = at-below (λ g. all-below (λ r. hasKey (news g 0 8 []) (entry-at (place g r))) 8) 128 all-new g b in
+    none-of-group 128 g h b n (entry-at (place g r)) (at-below (λ r. hasKey (news g 0 8 []) (entry-at (place g r))) 8 t r c)
+    (subst (λ x. OneOf (places (entry-at (place g r)) g 0 8) x) (place-of-group h)
+    (subst (λ x. OneOf (places (entry-at (place g x)) g 0 8) (place g x)) (zero-add r) (places-have g 0 8 r c)))
+
+pub entry-past : (h : ℕ) → None-of (arms 128) h → k.LineF ≡ entry-at h
 unfolding entry-at
-entry-past h n = go (ltb h (length entries)) refl
+entry-past h n = go (ltb h 1024) refl
   where
-    go : (b : Bool) → ltb h (length entries) ≡ b → k.LineF ≡ getD entries h k.LineF
-    go true e = absurd (in-an-arm h (ltb-true h (length entries) e) n)
-    go false e = sym (List·getD-eq-default entries k.LineF {n = h} (ltb-false h (length entries) e))
+    go : (b : Bool) → ltb h 1024 ≡ b → k.LineF ≡ getD entries h k.LineF
+    go true e = absurd (in-an-arm h (ltb-true h 1024 e) n)
+    go false e = sym (List·getD-eq-default entries k.LineF {n = h} (rw entries-length (ltb-false h 1024 e)))

@@ -34,7 +34,8 @@ exchanges op = fit data-register op k.ExgData (either address-register k.ExgAddr
 abbrev pub plain-modes : ℕ → Bool
 plain-modes class = all-below (λ e. eqb (e / 8) 1 || (eqb (e / 8) 7 || eqb (class / 2 ^ e % 2) 1)) 64
 
--- the ways by their numbers, in the order in which the table has them first; the last one past the list [003 B]
+-- the ways by their numbers, in the order in which the table has them first; the last one past the list. 17, 18 and 40 have An's class
+-- before the other, since the code asks them by mode [003 B]
 unfoldable pub way-at : ℕ → Way
 way-at n =
     getD
@@ -110,7 +111,7 @@ way-at n =
 
 -- the kind that an entry tells of a word [K9]
 unfoldable pub told : ℕ → Way
-told e op = let by-way : ℕ = way-at (e - decide) op in pick (ltb e decide) e by-way
+told e op = pick (ltb e decide) e (way-at (e - decide) op)
 
 -- the kind of the operation word in op's low sixteen bits, by the table [K9]
 unfoldable pub kind-by-table : ℕ → ℕ
