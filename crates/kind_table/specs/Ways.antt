@@ -26,7 +26,7 @@ only class kind op = fit class op kind k.Illegal
 abbrev pub either : ℕ → ℕ → ℕ → ℕ → Way
 either class kind second other op = fit class op kind (only second other op)
 
--- three classes, of one place alone [003 B EXG AND]
+-- three classes, in one way alone: line 12, bits 8 to 6 are 101 [003 B EXG AND]
 abbrev pub exchanges : Way
 exchanges op = fit data-register op k.ExgData (either address-register k.ExgAddress memory-alterable k.AndToMemory op)
 

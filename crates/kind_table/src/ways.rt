@@ -26,7 +26,7 @@ fn either(class: u64, kind: u32, second: u64, other: u32, op: u32) -> u32
     classes::fit(class, op, kind, only(second, other, op))
 }
 
-// three classes, of one place alone
+// three classes, in one way alone: line 12, bits 8 to 6 are 101
 fn exchanges(op: u32) -> u32
     ensures { λ k. ⌜ k ≡ exchanges op ⌝ }
 {
@@ -41,7 +41,7 @@ fn exchanges(op: u32) -> u32
 }
 
 // Two, An's and a class that allows all modes but An's and 7 whatever the register: asked by mode, so that the compiler goes from
-// the table to the commonest instructions without a kind between (docs/DECISIONS.md D98).
+// the table to the commonest instructions without a kind between (docs/DECISIONS.md D99).
 fn by_mode(address: u32, class: u64, kind: u32, op: u32) -> u32
     requires { ⌜ plain-modes class ≡ true ⌝ }
     ensures { λ k. ⌜ k ≡ either address-register address class kind op ⌝ }
