@@ -1,19 +1,21 @@
--- BusLaws.antt - one law for each return of the functions of bus: the two leaf reads on the parts, all others over any view. whole-shows:
--- the parts of all of a memory show all of it. room-keeps: asking for room changes no more of a flow than its fault.
+-- BusLaws.antt - one law for each return of the functions of bus: the leaves on the parts, all others over any view. whole-shows: the parts
+-- of all of a memory and of a ROM show all of both. room-keeps: asking for room changes no more of a flow than its fault.
 -- Uses: bits.
-use Prim.Native.Nat.{ℕ, zero, suc, _+_, _*_, _%_, _<_}
+use Prim.Native.Nat.{ℕ, zero, suc, _+_, _-_, _*_, _%_, _<_}
 use native.Mathlib.Omega.{arith}
 use mathlib.Core.Path.{_≡_, refl, ap, _∙_}
-use mathlib.Core.Bool.{Bool, true, false, _&&_}
+use mathlib.Core.Bool.{Bool, true, false, _&&_, _||_}
 use mathlib.Core.List.{List, [], _∷_, map}
 use lib.ListN.{length, getD}
 use lib.Dec.{ltb, leb, eqb}
-use borrow.Author.Tests.{ltb-true, le-leb}
+use borrow.Author.Tests.{ltb-true, le-leb, le-ltb}
+use Rattle.codes.specs.Codes.{RomStart}
 use Rattle.bits.specs.Bits.{pick, plus, by-size}
 use Rattle.bits.proofs.BitsLaws.{and-right}
 use Rattle.bus.specs.declared.Flow.{Flow}
 use Rattle.bus.specs.declared.Fetched.{Fetched}
-use Rattle.bus.specs.Bus.{View, two-at, all-of, part, view-of, whole, pins, failed, with-pc, read-byte, read-word, read-long, read-sized, room, next-word, next-long}
+use Rattle.bus.specs.Bus.{View, two-at, all-of, as-rom, beside, part, byte-within, word-within, between, rom-of, view-of, whole, pins, failed, with-pc}
+use Rattle.bus.specs.Bus.{found-byte, found-word, read-byte, read-word, read-long, read-sized, for-writing, room, next-word, next-long}
 
 abbrev fetched : ℕ → Flow → Fetched
 fetched v f = record { value = v; flow = f }
@@ -35,35 +37,114 @@ part-is g (x ∷ xs) (suc i) d = part-is g xs i d
 from-none : (a : ℕ) (b : Bool) → (leb (length {A = ℕ} []) a && b) ≡ b
 from-none a b = ap (λ (x : Bool). x && b) (le-leb 0 a (omega arith))
 
-pub whole-shows : (m : List ℕ) → view-of (whole m) ≡ all-of m
-unfolding view-of all-of
-whole-shows m =
+all-between : (m : List ℕ) → between [] m ≡ all-of m
+unfolding all-of
+all-between m =
     λ j.
     record {
       byte-ok = λ a. from-none a (ltb a (length m)) j;
       word-ok = λ a. from-none a (ltb (a + 1) (length m)) j;
       byte = λ a. pick (from-none a (ltb a (length m)) j) (getD m a 0) 0;
       word = λ a. pick (from-none a (ltb (a + 1) (length m)) j) (two-at m a) 0;
+      byte-free = λ a. from-none a (ltb a (length m)) j;
+      word-free = λ a. from-none a (ltb (a + 1) (length m)) j;
     }
 
--- the two leaves: first is the length of the first part, m the second
+pub whole-shows : (m rom : List ℕ) → view-of (whole m rom) ≡ beside (all-of m) (as-rom (all-of rom))
+unfolding view-of rom-of
+whole-shows m rom = λ j. beside (all-between m j) (as-rom (all-between rom j))
+
+-- an empty ROM has nothing
+none-there : (a : ℕ) (b : Bool) → (b && ltb a 0) ≡ false
+none-there a true = le-ltb a 0 (omega arith)
+none-there a false = refl
+
+no-rom-test : (x b : Bool) → b ≡ false → (x || b) ≡ x
+no-rom-test true b e = refl
+no-rom-test false b e = e
+
+no-rom-value : (x b c : Bool) (y : ℕ) → pick x (pick x y 0) (pick b (pick c 0 0) 0) ≡ pick x y 0
+no-rom-value true b c y = refl
+no-rom-value false true true y = refl
+no-rom-value false true false y = refl
+no-rom-value false false c y = refl
+
+without-rom : (m : List ℕ) → beside (all-of m) (as-rom (all-of [])) ≡ all-of m
+unfolding all-of
+without-rom m =
+    λ j.
+    record {
+      byte-ok = λ a. no-rom-test (ltb a (length m)) (leb RomStart a && ltb (a - RomStart) 0) (none-there (a - RomStart) (leb RomStart a)) j;
+      word-ok = λ a. no-rom-test (ltb (a + 1) (length m)) (leb RomStart a && ltb (a - RomStart + 1) 0) (none-there (a - RomStart + 1) (leb RomStart a)) j;
+      byte = λ a. no-rom-value (ltb a (length m)) (leb RomStart a) (ltb (a - RomStart) 0) (getD m a 0) j;
+      word = λ a. no-rom-value (ltb (a + 1) (length m)) (leb RomStart a) (ltb (a - RomStart + 1) 0) (two-at m a) j;
+      byte-free = λ a. no-rom-test (ltb a (length m)) false refl j;
+      word-free = λ a. no-rom-test (ltb (a + 1) (length m)) false refl j;
+    }
+
+-- the leaves: first is the length of the first part, m the second
 module _ (q : List (List ℕ)) (a k : ℕ) (f : Flow) (first : ℕ) (m : List ℕ) where
   module _ (c : eqb (f .bad) 0 ≡ true) (l : first ≡ length (part q 0)) (h : m ≡ part q 1) where
     pub byte-inside : (v : ℕ) → (leb first (pins a) && ltb (pins a) (length m)) ≡ true → v ≡ getD m (pins a) 0 → fetched v f ≡ read-byte (view-of q) a k f
     unfolding read-byte view-of
     byte-inside v t e = cc
 
-    pub byte-outside : (g : Flow) → (leb first (pins a) && ltb (pins a) (length m)) ≡ false → g ≡ failed f 2 (pins a) k → fetched 0 g ≡ read-byte (view-of q) a k f
+    pub byte-elsewhere : (r : Fetched) → (leb first (pins a) && ltb (pins a) (length m)) ≡ false → r ≡ found-byte (rom-of q) (pins a) k f → r ≡ read-byte (view-of q) a k f
     unfolding read-byte view-of
-    byte-outside g t e = cc
+    byte-elsewhere r t e = cc
 
     pub word-inside : (x y : ℕ) → eqb (pins a % 2) 1 ≡ false → (leb first (pins a) && ltb (pins a + 1) (length m)) ≡ true → x ≡ getD m (pins a) 0 → y ≡ getD m (pins a + 1) 0 → fetched (x * 256 + y) f ≡ read-word (view-of q) a k f
     unfolding read-word view-of
     word-inside x y o t e d = cc
 
-    pub word-outside : (g : Flow) → eqb (pins a % 2) 1 ≡ false → (leb first (pins a) && ltb (pins a + 1) (length m)) ≡ false → g ≡ failed f 2 (pins a) k → fetched 0 g ≡ read-word (view-of q) a k f
+    pub word-elsewhere : (r : Fetched) → eqb (pins a % 2) 1 ≡ false → (leb first (pins a) && ltb (pins a + 1) (length m)) ≡ false → r ≡ found-word (rom-of q) (pins a) k f → r ≡ read-word (view-of q) a k f
     unfolding read-word view-of
-    word-outside g o t e = cc
+    word-elsewhere r o t e = cc
+
+    pub byte-free : (leb first (pins a) && ltb (pins a) (length m)) ≡ true → f ≡ read-byte (for-writing (view-of q)) a k f .flow
+    unfolding read-byte view-of
+    byte-free t = cc
+
+    pub byte-not-free : (g : Flow) → (leb first (pins a) && ltb (pins a) (length m)) ≡ false → g ≡ failed f 2 (pins a) k → g ≡ read-byte (for-writing (view-of q)) a k f .flow
+    unfolding read-byte view-of rom-of
+    byte-not-free g t e = cc
+
+    pub word-free : eqb (pins a % 2) 1 ≡ false → (leb first (pins a) && ltb (pins a + 1) (length m)) ≡ true → f ≡ read-word (for-writing (view-of q)) a k f .flow
+    unfolding read-word view-of
+    word-free o t = cc
+
+    pub word-not-free : (g : Flow) → eqb (pins a % 2) 1 ≡ false → (leb first (pins a) && ltb (pins a + 1) (length m)) ≡ false → g ≡ failed f 2 (pins a) k → g ≡ read-word (for-writing (view-of q)) a k f .flow
+    unfolding read-word view-of rom-of
+    word-not-free g o t e = cc
+
+-- those of the ROM: first is the length of the third part, m the fourth
+module _ (q : List (List ℕ)) (p k : ℕ) (f : Flow) where
+  module _ (first : ℕ) (m : List ℕ) (s : leb RomStart p ≡ true) (l : first ≡ length (part q 2)) (h : m ≡ part q 3) where
+    pub rom-byte-inside : (v : ℕ) → (leb first (p - RomStart) && ltb (p - RomStart) (length m)) ≡ true → v ≡ getD m (p - RomStart) 0 → fetched v f ≡ found-byte (rom-of q) p k f
+    unfolding rom-of
+    rom-byte-inside v t e = cc
+
+    pub rom-byte-outside : (g : Flow) → (leb first (p - RomStart) && ltb (p - RomStart) (length m)) ≡ false → g ≡ failed f 2 p k → fetched 0 g ≡ found-byte (rom-of q) p k f
+    unfolding rom-of
+    rom-byte-outside g t e = cc
+
+    pub rom-word-inside : (x y : ℕ) → (leb first (p - RomStart) && ltb (p - RomStart + 1) (length m)) ≡ true → x ≡ getD m (p - RomStart) 0 → y ≡ getD m (p - RomStart + 1) 0
+        → fetched (x * 256 + y) f ≡ found-word (rom-of q) p k f
+    unfolding rom-of
+    rom-word-inside x y t e d = cc
+
+    pub rom-word-outside : (g : Flow) → (leb first (p - RomStart) && ltb (p - RomStart + 1) (length m)) ≡ false → g ≡ failed f 2 p k → fetched 0 g ≡ found-word (rom-of q) p k f
+    unfolding rom-of
+    rom-word-outside g t e = cc
+
+  module _ (g : Flow) (s : leb RomStart p ≡ false) (e : g ≡ failed f 2 p k) where
+    pub rom-byte-below : fetched 0 g ≡ found-byte (rom-of q) p k f
+    unfolding rom-of
+    rom-byte-below = cc
+
+    pub rom-word-below : fetched 0 g ≡ found-word (rom-of q) p k f
+    unfolding rom-of
+    rom-word-below = cc
 
 module _ (v : View) (a k : ℕ) (f : Flow) where
   pub word-odd : (g : Flow) → eqb (f .bad) 0 ≡ true → eqb (pins a % 2) 1 ≡ true → g ≡ failed f 3 (pins a) k → fetched 0 g ≡ read-word v a k f
@@ -83,17 +164,32 @@ module _ (v : View) (a k : ℕ) (f : Flow) where
   long-is h l b p e q = cc
 
 module _ (v : View) (a z : ℕ) (f : Flow) where
-  pub room-byte : (r : Fetched) → eqb z 0 ≡ true → r ≡ read-byte v a 1 f → r .flow ≡ room v a z f
+  pub room-byte : (g : Flow) → eqb z 0 ≡ true → g ≡ read-byte (for-writing v) a 1 f .flow → g ≡ room v a z f
   unfolding room read-sized by-size
-  room-byte r t e = cc
+  room-byte g t e = cc
 
-  pub room-word : (r : Fetched) → eqb z 0 ≡ false → eqb z 1 ≡ true → r ≡ read-word v a 1 f → r .flow ≡ room v a z f
+  pub room-word : (g : Flow) → eqb z 0 ≡ false → eqb z 1 ≡ true → g ≡ read-word (for-writing v) a 1 f .flow → g ≡ room v a z f
   unfolding room read-sized by-size
-  room-word r t u e = cc
+  room-word g t u e = cc
 
-  pub room-long : (r : Fetched) → eqb z 0 ≡ false → eqb z 1 ≡ false → r ≡ read-long v a 1 f → r .flow ≡ room v a z f
-  unfolding room read-sized by-size
-  room-long r t u e = cc
+  pub room-long : (g h : Flow) (b : ℕ) → eqb z 0 ≡ false → eqb z 1 ≡ false → g ≡ read-word (for-writing v) a 1 f .flow → b ≡ plus a 2
+      → h ≡ read-word (for-writing v) b 1 g .flow → h ≡ room v a z f
+  unfolding room read-sized read-long by-size
+  room-long g h b t u e d k = cc
+
+-- what a flow is where a word is odd, and after a fault
+module _ (v : View) (a k : ℕ) (f : Flow) where
+  pub odd-flow : (g : Flow) → eqb (f .bad) 0 ≡ true → eqb (pins a % 2) 1 ≡ true → g ≡ failed f 3 (pins a) k → g ≡ read-word v a k f .flow
+  unfolding read-word
+  odd-flow g c t e = cc
+
+  pub byte-flow-failed : eqb (f .bad) 0 ≡ false → f ≡ read-byte v a k f .flow
+  unfolding read-byte
+  byte-flow-failed c = cc
+
+  pub word-flow-failed : eqb (f .bad) 0 ≡ false → f ≡ read-word v a k f .flow
+  unfolding read-word
+  word-flow-failed c = cc
 
 -- an access changes no more of a flow than its fault
 module _ (v : View) (k : ℕ) where
@@ -127,17 +223,17 @@ module _ (v : View) (k : ℕ) where
 
 pub room-keeps : (v : View) (a z : ℕ) (f : Flow) → (room v a z f .pc ≡ f .pc) × (room v a z f .sr ≡ f .sr)
 unfolding room read-sized by-size
-room-keeps v a z f = go (eqb z 0) (eqb z 1)
+room-keeps v a z f = go (for-writing v) (eqb z 0) (eqb z 1)
   where
-    go : (b c : Bool) → Kept v 1 f (pick b (read-byte v a 1 f) (pick c (read-word v a 1 f) (read-long v a 1 f)) .flow)
-    go true c = byte-keeps v 1 a f
-    go false true = word-keeps v 1 a f
-    go false false = long-keeps v 1 a f
+    go : (w : View) (b c : Bool) → Kept w 1 f (pick b (read-byte w a 1 f) (pick c (read-word w a 1 f) (read-long w a 1 f)) .flow)
+    go w true c = byte-keeps w 1 a f
+    go w false true = word-keeps w 1 a f
+    go w false false = long-keeps w 1 a f
 
--- q is what the code lends: all of the memory m
-module _ (m : List ℕ) (q : List (List ℕ)) (a : ℕ) (f : Flow) (all : q ≡ whole m) where
+-- q is what the code lends: all of the memory m, and no ROM
+module _ (m : List ℕ) (q : List (List ℕ)) (a : ℕ) (f : Flow) (all : q ≡ whole m []) where
   shows-all : view-of q ≡ all-of m
-  shows-all = ap view-of all ∙ whole-shows m
+  shows-all = ap view-of all ∙ whole-shows m [] ∙ without-rom m
 
   pub room-anywhere : (z : ℕ) (g : Flow) → g ≡ room (view-of q) a z f → g ≡ room (all-of m) a z f
   room-anywhere z g e = e ∙ ap (λ (v : View). room v a z f) shows-all

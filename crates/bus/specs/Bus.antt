@@ -1,13 +1,13 @@
 -- Bus.antt - what an access to lent memory gives: a value, or the fault that the instruction then carries; and what a put leaves.
--- Not modelled: bus cycles, prefetch. The instruction layers see memory only through a `View`: what a state may touch of it is `seen-by`,
--- and nothing above it knows of the window. Laws: proofs/BusLaws.antt; crate reach shows that the parts that the code lends show it.
--- Source: [003 2.4], [003 4-1], [003 4.4.9], [003 4.4.10], [01 step 6], [01 step 7], [K7].
-use Prim.Native.Nat.{ℕ, _+_, _*_, _%_, _/_}
-use mathlib.Core.Bool.{Bool, _&&_, _||_}
+-- Not modelled: bus cycles, prefetch. The instruction layers see memory and ROM only through a `View`: what a state may touch is `seen-by`,
+-- and nothing above it knows of window and ROM. Laws: proofs/BusLaws.antt; crate reach shows that the parts that the code lends show it.
+-- Source: [003 2.4], [003 4-1], [003 4.4.9], [003 4.4.10], [01 step 6], [01 step 7], [K7], [K10].
+use Prim.Native.Nat.{ℕ, _+_, _-_, _*_, _%_, _/_}
+use mathlib.Core.Bool.{Bool, false, _&&_, _||_}
 use mathlib.Core.List.{List, [], _∷_}
 use lib.ListN.{length, getD, set}
 use lib.Dec.{ltb, leb, eqb}
-use Rattle.codes.specs.Codes.{Supervisor, Addresses, BusError, AddressError, ProgramRead, DataWrite}
+use Rattle.codes.specs.Codes.{Supervisor, Addresses, RomStart, BusError, AddressError, ProgramRead, DataWrite}
 use Rattle.bits.specs.Bits.{pick, plus, by-size}
 use Rattle.bus.specs.declared.Flow.{Flow}
 use Rattle.bus.specs.declared.Fetched.{Fetched}
@@ -17,12 +17,19 @@ use Rattle.bus.specs.declared.Window.{Window}
 abbrev pub pins : ℕ → ℕ
 pins a = a % Addresses
 
--- what a program can see of memory: which bytes and words it may touch, and what they hold (0 elsewhere)  [ours]
+-- what a program can see: which bytes and words it may read, what they hold (0 elsewhere), and which it may write  [ours] [K10]
 pub record View : Type 0 where
   pub byte-ok : ℕ → Bool
   pub word-ok : ℕ → Bool
   pub byte : ℕ → ℕ
   pub word : ℕ → ℕ
+  pub byte-free : ℕ → Bool
+  pub word-free : ℕ → Bool
+
+-- what the host sets beside the memory, and no call changes: the window, and the ROM  [K7] [K10]
+pub record Board : Type 0 where
+  pub window : Window
+  pub rom : List ℕ
 
 -- the two bytes there, high byte first  [003 2.4] [01 Memory]
 abbrev pub two-at : List ℕ → ℕ → ℕ
@@ -35,47 +42,88 @@ all-of m = record {
   word-ok = λ a. ltb (a + 1) (length m);
   byte = λ a. pick (ltb a (length m)) (getD m a 0) 0;
   word = λ a. pick (ltb (a + 1) (length m)) (two-at m a) 0;
+  byte-free = λ a. ltb a (length m);
+  word-free = λ a. ltb (a + 1) (length m);
+}
+
+-- a view as it stands in the ROM: from $F00000 on, and nothing of it can be written  [K10]
+abbrev pub as-rom : View → View
+as-rom v = record {
+  byte-ok = λ a. leb RomStart a && v .byte-ok (a - RomStart);
+  word-ok = λ a. leb RomStart a && v .word-ok (a - RomStart);
+  byte = λ a. pick (leb RomStart a) (v .byte (a - RomStart)) 0;
+  word = λ a. pick (leb RomStart a) (v .word (a - RomStart)) 0;
+  byte-free = λ a. false;
+  word-free = λ a. false;
+}
+
+-- a second view beside a first, which is asked first  [K10]
+abbrev pub beside : View → View → View
+beside v w = record {
+  byte-ok = λ a. v .byte-ok a || w .byte-ok a;
+  word-ok = λ a. v .word-ok a || w .word-ok a;
+  byte = λ a. pick (v .byte-ok a) (v .byte a) (w .byte a);
+  word = λ a. pick (v .word-ok a) (v .word a) (w .word a);
+  byte-free = λ a. v .byte-free a || w .byte-free a;
+  word-free = λ a. v .word-free a || w .word-free a;
 }
 
 -- whether a state may touch the n bytes from a on: any in supervisor state, in user state those that lie wholly in the window  [K7]
 abbrev pub allowed : Bool → Window → ℕ → ℕ → Bool
 allowed sup win a n = sup || (leb (win .lo) a && leb (a + n) (win .hi))
 
--- what a state may touch of a memory, to read or to write it, and what it finds there  [K7]
-unfoldable pub seen-by : Bool → Window → List ℕ → View
-seen-by sup win m = record {
-  byte-ok = λ a. allowed sup win a 1 && all-of m .byte-ok a;
-  word-ok = λ a. allowed sup win a 2 && all-of m .word-ok a;
-  byte = λ a. pick (allowed sup win a 1) (all-of m .byte a) 0;
-  word = λ a. pick (allowed sup win a 2) (all-of m .word a) 0;
+-- what a state may touch of a view  [K7]
+abbrev pub fenced : Bool → Window → View → View
+fenced sup win v = record {
+  byte-ok = λ a. allowed sup win a 1 && v .byte-ok a;
+  word-ok = λ a. allowed sup win a 2 && v .word-ok a;
+  byte = λ a. pick (allowed sup win a 1) (v .byte a) 0;
+  word = λ a. pick (allowed sup win a 2) (v .word a) 0;
+  byte-free = λ a. allowed sup win a 1 && v .byte-free a;
+  word-free = λ a. allowed sup win a 2 && v .word-free a;
 }
 
--- ---- what the code lends for a view: memory below the window, of which only the length counts, and memory below the window's end
+-- what a state may touch of a memory and of the board's ROM, to read or to write it, and what it finds there  [K7] [K10]
+unfoldable pub seen-by : Bool → Board → List ℕ → View
+seen-by sup board m = fenced sup (board .window) (beside (all-of m) (as-rom (all-of (board .rom))))
+
+-- ---- what the code lends for a view: memory below the window, of which only the length counts, and memory below the window's end; and the same
+-- two of the ROM
 
 -- part i of what is lent  [ours]
 abbrev pub part : List (List ℕ) → ℕ → List ℕ
 part q i = getD q i []
 
--- a byte, a word wholly, from the length of the first part to below that of the second  [ours]
-abbrev pub byte-within : List (List ℕ) → ℕ → Bool
-byte-within q a = leb (length (part q 0)) a && ltb a (length (part q 1))
+-- a byte, a word wholly, from the length of a first part to below that of a second  [ours]
+abbrev pub byte-within : List ℕ → List ℕ → ℕ → Bool
+byte-within low high a = leb (length low) a && ltb a (length high)
 
 -- likewise  [ours]
-abbrev pub word-within : List (List ℕ) → ℕ → Bool
-word-within q a = leb (length (part q 0)) a && ltb (a + 1) (length (part q 1))
+abbrev pub word-within : List ℕ → List ℕ → ℕ → Bool
+word-within low high a = leb (length low) a && ltb (a + 1) (length high)
+
+-- what two parts show  [ours]
+abbrev pub between : List ℕ → List ℕ → View
+between low high = record {
+  byte-ok = λ a. byte-within low high a;
+  word-ok = λ a. word-within low high a;
+  byte = λ a. pick (byte-within low high a) (getD high a 0) 0;
+  word = λ a. pick (word-within low high a) (two-at high a) 0;
+  byte-free = λ a. byte-within low high a;
+  word-free = λ a. word-within low high a;
+}
+
+-- what the parts of the ROM show  [ours]
+unfoldable pub rom-of : List (List ℕ) → View
+rom-of q = as-rom (between (part q 2) (part q 3))
 
 -- what the parts show  [ours]
 unfoldable pub view-of : List (List ℕ) → View
-view-of q = record {
-  byte-ok = λ a. byte-within q a;
-  word-ok = λ a. word-within q a;
-  byte = λ a. pick (byte-within q a) (getD (part q 1) a 0) 0;
-  word = λ a. pick (word-within q a) (two-at (part q 1) a) 0;
-}
+view-of q = beside (between (part q 0) (part q 1)) (rom-of q)
 
--- the parts that show all of a memory  [ours]
-abbrev pub whole : List ℕ → List (List ℕ)
-whole m = [] ∷ m ∷ []
+-- the parts that show all of a memory and of a ROM  [ours]
+abbrev pub whole : List ℕ → List ℕ → List (List ℕ)
+whole m rom = [] ∷ m ∷ [] ∷ rom ∷ []
 
 -- a fault in one number, never 0: the address, the information word, the vector  [ours] [01 step 7]
 abbrev pub packed : ℕ → ℕ → ℕ → ℕ
@@ -113,21 +161,23 @@ with-sr f sr = record { pc = f .pc; sr = sr; bad = f .bad }
 abbrev pub unless-failed : Flow → Fetched → Fetched
 unless-failed f w = pick (eqb (f .bad) 0) w (record { value = 0; flow = f })
 
--- a byte outside memory is a bus error  [003 4.4.9] [01 step 6]
-unfoldable pub read-byte : View → ℕ → ℕ → Flow → Fetched
-read-byte v a k f =
-    unless-failed f
-    (pick (v .byte-ok (pins a)) (record { value = v .byte (pins a); flow = f }) (record { value = 0; flow = failed f BusError (pins a) k }))
+-- a byte at 24 bits that a view does not have is a bus error  [003 4.4.9] [01 step 6]
+abbrev pub found-byte : View → ℕ → ℕ → Flow → Fetched
+found-byte v p k f = pick (v .byte-ok p) (record { value = v .byte p; flow = f }) (record { value = 0; flow = failed f BusError p k })
 
--- a word at an odd address is an address error, one outside memory a bus error; odd is asked first  [003 4.4.10] [003 4.4.9] [01 step 6]
+-- likewise a word  [003 4.4.9] [01 step 6]
+abbrev pub found-word : View → ℕ → ℕ → Flow → Fetched
+found-word v p k f = pick (v .word-ok p) (record { value = v .word p; flow = f }) (record { value = 0; flow = failed f BusError p k })
+
+-- a byte by its address  [01 step 6]
+unfoldable pub read-byte : View → ℕ → ℕ → Flow → Fetched
+read-byte v a k f = unless-failed f (found-byte v (pins a) k f)
+
+-- a word at an odd address is an address error; odd is asked first  [003 4.4.10] [01 step 6]
 unfoldable pub read-word : View → ℕ → ℕ → Flow → Fetched
 read-word v a k f =
     unless-failed f
-    (pick (eqb (pins a % 2) 1)
-    (record { value = 0; flow = failed f AddressError (pins a) k })
-    (pick (v .word-ok (pins a))
-    (record { value = v .word (pins a); flow = f })
-    (record { value = 0; flow = failed f BusError (pins a) k })))
+    (pick (eqb (pins a % 2) 1) (record { value = 0; flow = failed f AddressError (pins a) k }) (found-word v (pins a) k f))
 
 -- a long is two words, the upper first  [003 2.4] [01 step 6]
 unfoldable pub read-long : View → ℕ → ℕ → Flow → Fetched
@@ -140,9 +190,20 @@ read-long v a k f =
 unfoldable pub read-sized : View → ℕ → ℕ → ℕ → Flow → Fetched
 read-sized v a z k f = by-size z (read-byte v a k f) (read-word v a k f) (read-long v a k f)
 
--- room for a write: the same tests, and the fault is a write's  [01 step 6] [01 step 7]
+-- a view for a write: of what it has, what may be written  [K10]
+abbrev pub for-writing : View → View
+for-writing v = record {
+  byte-ok = v .byte-free;
+  word-ok = v .word-free;
+  byte = v .byte;
+  word = v .word;
+  byte-free = v .byte-free;
+  word-free = v .word-free;
+}
+
+-- room for a write: the same tests on what may be written, and the fault is a write's  [01 step 6] [01 step 7] [K10]
 unfoldable pub room : View → ℕ → ℕ → Flow → Flow
-room v a z f = read-sized v a z DataWrite f .flow
+room v a z f = read-sized (for-writing v) a z DataWrite f .flow
 
 -- the next word of the instruction: a program read  [003 2.7] [01 step 7]
 unfoldable pub next-word : View → Flow → Fetched

@@ -1,11 +1,12 @@
-// lib.rt - memory as a state may see it: reads with their faults, room for a write, and the words of an instruction in turn.
+// lib.rt - memory and ROM as a state may see them: reads with their faults, room for a write, and the words of an instruction in turn.
 // Means: specs/Bus.antt.  Laws: proofs/BusLaws.antt.
-// Uses: codes, bits.  Source: [003 2.4], [003 4-1], [003 4.4.9], [003 4.4.10], [01 Memory], [01 step 6], [01 step 7], [K7].
+// Uses: codes, bits.  Source: [003 2.4], [003 4-1], [003 4.4.9], [003 4.4.10], [01 Memory], [01 step 6], [01 step 7], [K7], [K10].
 ghost use mathlib.Core.Path.{_≡_};
-ghost use mathlib.Core.List.{map};
+ghost use mathlib.Core.List.{[], map};
 ghost use Prim.Native.Nat.{_+_, _*_, _%_, _/_, _<_};
 ghost use lib.ListN.{length};
-ghost use Rattle.bus.specs.Bus.{all-of, part, view-of, whole, failed, with-pc, with-sr, read-byte, read-word, read-long, read-sized, room, next-word, next-long};
+ghost use Rattle.bus.specs.Bus.{all-of, part, rom-of, view-of, whole, failed, with-pc, with-sr, found-byte, found-word, read-byte, read-word, read-long, read-sized};
+ghost use Rattle.bus.specs.Bus.{for-writing, room, next-word, next-long};
 
 // The addresses that user state may touch: from lo to below hi. The host sets it; no step or undo changes it.
 pub struct Window {
@@ -13,9 +14,9 @@ pub struct Window {
     pub hi: u32,
 }
 
-// How many parts of memory are lent for a view: what lies below the window, of which only the length counts, and what lies below the
-// window's end. Addresses are places in the second one.
-pub const PARTS: usize = 2;
+// How many parts are lent for a view: what of memory lies below the window, of which only the length counts, and what lies below the
+// window's end; and the same two of the ROM. Addresses are places in the second one, and those from ROM_START on places in the fourth.
+pub const PARTS: usize = 4;
 
 pub type Parts<'a> = [&'a [u8]; PARTS];
 
@@ -66,12 +67,20 @@ pub fn with_sr(f: Flow, sr: u32) -> Flow
     }
 }
 
-// The parts that show all of a memory.
-pub fn whole<'a>(mem: &'a [u8]) -> Parts<'a>
-    ensures { λ r. ⌜ map now r ≡ whole (now (mem .entry)) ⌝ }
+// The parts that show all of a memory and of a ROM.
+pub fn whole<'a>(mem: &'a [u8], rom: &'a [u8]) -> Parts<'a>
+    ensures { λ r. ⌜ map now r ≡ whole (now (mem .entry)) (now (rom .entry)) ⌝ }
 {
     let none = &mem[0..0];
-    [none, mem]
+    [none, mem, none, rom]
+}
+
+// The parts that show all of a memory, and no ROM.
+fn alone<'a>(mem: &'a [u8]) -> Parts<'a>
+    ensures { λ r. ⌜ map now r ≡ whole (now (mem .entry)) [] ⌝ }
+{
+    let none = &mem[0..0];
+    [none, mem, none, none]
 }
 
 // The first address that may be touched.
@@ -88,6 +97,77 @@ pub fn below<'a, 'b>(mem: &'a Parts<'b>) -> &'b [u8]
     mem[1]
 }
 
+// The first place of the ROM that may be touched.
+fn rom_low(mem: &Parts) -> usize
+    ensures { λ r. ⌜ r ≡ length (part (map now (now (mem .entry))) 2) ⌝ }
+{
+    mem[2].len()
+}
+
+// The ROM below the last one.
+fn rom_below<'a, 'b>(mem: &'a Parts<'b>) -> &'b [u8]
+    ensures { λ r. ⌜ now r ≡ part (map now (now (mem .entry))) 3 ⌝ }
+{
+    mem[3]
+}
+
+// A byte at 24 bits that memory does not have.
+fn rom_byte(mem: &Parts, p: u32, k: u32, f: Flow) -> Fetched
+    ensures { λ r. ⌜ r ≡ found-byte (rom-of (map now (now (mem .entry)))) p k f ⌝ }
+    ensures { λ r. ⌜ r .value < 256 ⌝ }
+{
+    let there = codes::ROM_START <= p;
+    if there {
+        let i = (p - codes::ROM_START) as usize;
+        let first = rom_low(mem);
+        let rom = rom_below(mem);
+        let inside = (first <= i) & (i < rom.len());
+        if inside {
+            return Fetched {
+                value: bits::wide(rom[i]),
+                flow: f,
+            };
+        }
+        return Fetched {
+            value: 0,
+            flow: failed(f, codes::BUS_ERROR, p, k),
+        };
+    }
+    Fetched {
+        value: 0,
+        flow: failed(f, codes::BUS_ERROR, p, k),
+    }
+}
+
+// Likewise a word.
+fn rom_word(mem: &Parts, p: u32, k: u32, f: Flow) -> Fetched
+    ensures { λ r. ⌜ r ≡ found-word (rom-of (map now (now (mem .entry)))) p k f ⌝ }
+    ensures { λ r. ⌜ r .value < 65536 ⌝ }
+{
+    let there = codes::ROM_START <= p;
+    if there {
+        let i = (p - codes::ROM_START) as usize;
+        let first = rom_low(mem);
+        let rom = rom_below(mem);
+        let inside = (first <= i) & (i + 1 < rom.len());
+        if inside {
+            return Fetched {
+                value: bits::wide(rom[i]) * 256 + bits::wide(rom[i + 1]),
+                flow: f,
+            };
+        }
+        return Fetched {
+            value: 0,
+            flow: failed(f, codes::BUS_ERROR, p, k),
+        };
+    }
+    Fetched {
+        value: 0,
+        flow: failed(f, codes::BUS_ERROR, p, k),
+    }
+}
+
+// Memory is asked before ROM.
 pub fn read_byte(mem: &Parts, a: u32, k: u32, f: Flow) -> Fetched
     ensures { λ r. ⌜ r ≡ read-byte (view-of (map now (now (mem .entry)))) a k f ⌝ }
     ensures { λ r. ⌜ r .value < 256 ⌝ }
@@ -105,10 +185,7 @@ pub fn read_byte(mem: &Parts, a: u32, k: u32, f: Flow) -> Fetched
                 flow: f,
             }
         } else {
-            Fetched {
-                value: 0,
-                flow: failed(f, codes::BUS_ERROR, p, k),
-            }
+            rom_byte(mem, p, k, f)
         }
     } else {
         Fetched { value: 0, flow: f }
@@ -140,10 +217,7 @@ pub fn read_word(mem: &Parts, a: u32, k: u32, f: Flow) -> Fetched
                 flow: f,
             }
         } else {
-            Fetched {
-                value: 0,
-                flow: failed(f, codes::BUS_ERROR, p, k),
-            }
+            rom_word(mem, p, k, f)
         }
     } else {
         Fetched { value: 0, flow: f }
@@ -178,23 +252,62 @@ pub fn read_sized(mem: &Parts, a: u32, z: u32, k: u32, f: Flow) -> Fetched
     read_long(mem, a, k, f)
 }
 
-// Whether that many bytes can be written there, as the fault that the flow then carries. Not by read_sized: here nothing is done with what
-// is read, so the compiler reads nothing.
+// Whether a byte can be written there, as the fault that the flow then carries. ROM is not asked.
+fn room_byte(mem: &Parts, a: u32, f: Flow) -> Flow
+    ensures { λ r. ⌜ r ≡ read-byte (for-writing (view-of (map now (now (mem .entry))))) a 1 f .flow ⌝ }
+{
+    let p = a % codes::ADDRESSES;
+    let i = p as usize;
+    let clean = f.bad == 0;
+    if clean {
+        let first = low(mem);
+        let there = below(mem);
+        let inside = (first <= i) & (i < there.len());
+        if inside {
+            return f;
+        }
+        return failed(f, codes::BUS_ERROR, p, codes::DATA_WRITE);
+    }
+    f
+}
+
+// Whether a word can, likewise; odd is asked before outside.
+fn room_word(mem: &Parts, a: u32, f: Flow) -> Flow
+    ensures { λ r. ⌜ r ≡ read-word (for-writing (view-of (map now (now (mem .entry))))) a 1 f .flow ⌝ }
+{
+    let p = a % codes::ADDRESSES;
+    let i = p as usize;
+    let clean = f.bad == 0;
+    let odd = p % 2 == 1;
+    if clean {
+        if odd {
+            return failed(f, codes::ADDRESS_ERROR, p, codes::DATA_WRITE);
+        }
+        let first = low(mem);
+        let there = below(mem);
+        let inside = (first <= i) & (i + 1 < there.len());
+        if inside {
+            return f;
+        }
+        return failed(f, codes::BUS_ERROR, p, codes::DATA_WRITE);
+    }
+    f
+}
+
+// Whether that many bytes can be written there.
 pub fn room(mem: &Parts, a: u32, z: u32, f: Flow) -> Flow
     ensures { λ r. ⌜ r ≡ room (view-of (map now (now (mem .entry)))) a z f ⌝ }
 {
     let byte = z == 0;
     let word = z == 1;
     if byte {
-        let w = read_byte(mem, a, codes::DATA_WRITE, f);
-        return w.flow;
+        return room_byte(mem, a, f);
     }
     if word {
-        let w = read_word(mem, a, codes::DATA_WRITE, f);
-        return w.flow;
+        return room_word(mem, a, f);
     }
-    let w = read_long(mem, a, codes::DATA_WRITE, f);
-    w.flow
+    let g = room_word(mem, a, f);
+    room_word(mem, std::num::wrapping_add_u32(a, 2), g)
 }
 
 // The fault that a flow then carries, 0 if none. By numbers: a caller that has the flow in registers keeps it there.
@@ -206,19 +319,19 @@ pub fn room_fault(mem: &Parts, a: u32, z: u32, pc: u32, sr: u32, bad: u32) -> u3
     g.bad
 }
 
-// ---- the same in all of memory, for what no window hides: frames and vectors
+// ---- the same in all of memory and no ROM, for what no window hides: frames and vectors
 
 pub fn room_anywhere(mem: &[u8], a: u32, z: u32, f: Flow) -> Flow
     ensures { λ r. ⌜ r ≡ room (all-of (now (mem .entry))) a z f ⌝ }
 {
-    let all = whole(mem);
+    let all = alone(mem);
     room(&all, a, z, f)
 }
 
 pub fn read_long_anywhere(mem: &[u8], a: u32, k: u32, f: Flow) -> Fetched
     ensures { λ r. ⌜ r ≡ read-long (all-of (now (mem .entry))) a k f ⌝ }
 {
-    let all = whole(mem);
+    let all = alone(mem);
     read_long(&all, a, k, f)
 }
 

@@ -87,6 +87,13 @@ LeastMemory = 1024
 abbrev pub MostMemory : ℕ
 MostMemory = 16777216
 
+-- ---- the first address of the ROM, which no memory beside it reaches, and the most bytes of a ROM  [K10]
+abbrev pub RomStart : ℕ
+RomStart = 0xF00000
+
+abbrev pub MostRom : ℕ
+MostRom = 1048576
+
 -- ---- the highest level of a request, and the most steps of a run  [01 Calls, table]
 abbrev pub TopLevel : ℕ
 TopLevel = 7

@@ -50,13 +50,19 @@ pub const TRACE: u32 = 0x8000;
 
 pub const RESET_STATUS: u32 = 0x2700;
 
-// How many addresses there are, the least and the most bytes of a memory; the highest level of a request, and the most steps of a run.
+// How many addresses there are, the least and the most bytes of a memory.
 pub const ADDRESSES: u32 = 0x100_0000;
 
 pub const LEAST_MEMORY: usize = 1024;
 
 pub const MOST_MEMORY: usize = 16777216;
 
+// The first address of the ROM, which no memory beside it reaches, and the most bytes of a ROM.
+pub const ROM_START: u32 = 0xF0_0000;
+
+pub const MOST_ROM: usize = 1048576;
+
+// The highest level of a request, and the most steps of a run.
 pub const TOP_LEVEL: u32 = 7;
 
 pub const MOST_STEPS: u32 = 1000000;

@@ -1,4 +1,4 @@
-use Rattle.bus.proofs.BusLaws.{byte-inside, byte-outside, byte-when-failed, and-lt}
+use Rattle.bus.proofs.BusLaws.{byte-inside, byte-elsewhere, byte-when-failed, and-lt}
 use borrow.Author.Needs.{needs}
 use Rattle.bus.proofs.read_byte.Statement.{statement}
 use Rattle.bus.proofs.read_byte.Tie as tie
@@ -13,5 +13,5 @@ read-byte-spec =
     (λ c κs. search needs)
     (λ c κs. search needs)
     (λ c. (search byte-inside, search needs))
-    (λ c. (search byte-outside, search needs))
+    (λ c. (search byte-elsewhere, search needs))
     (λ c. (search byte-when-failed, search needs)))

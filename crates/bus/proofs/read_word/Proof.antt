@@ -1,4 +1,4 @@
-use Rattle.bus.proofs.BusLaws.{word-odd, word-inside, word-outside, word-when-failed, and-lt, and-lt-before}
+use Rattle.bus.proofs.BusLaws.{word-odd, word-inside, word-elsewhere, word-when-failed, and-lt, and-lt-before}
 use borrow.Author.Needs.{needs}
 use Rattle.bus.proofs.read_word.Statement.{statement}
 use Rattle.bus.proofs.read_word.Tie as tie
@@ -21,5 +21,5 @@ read-word-spec =
     (λ c. search needs)
     (λ c κs. search needs)
     (λ c. (search word-inside, search needs))
-    (λ c. (search word-outside, search needs))
+    (λ c. (search word-elsewhere, search needs))
     (λ c. (search word-when-failed, search needs)))
