@@ -31,6 +31,10 @@ pub record Board : Type 0 where
   pub window : Window
   pub rom : List ℕ
 
+-- the board of a window and a ROM  [ours]
+abbrev pub board-of : Window → List ℕ → Board
+board-of win rom = record { window = win; rom = rom }
+
 -- the two bytes there, high byte first  [003 2.4] [01 Memory]
 abbrev pub two-at : List ℕ → ℕ → ℕ
 two-at m a = getD m a 0 * 256 + getD m (a + 1) 0

@@ -1,6 +1,6 @@
 -- Reach.antt - how far the parts that are lent for user state go. No public promise speaks of it: lent shows seen-by of bus.
 -- Laws: proofs/ReachLaws.antt.
--- Source: [K7], [ours].
+-- Source: [K7], [K10], [ours].
 use Prim.Native.Nat.{ℕ}
 use lib.Dec.{ltb}
 use Rattle.bits.specs.Bits.{pick}
