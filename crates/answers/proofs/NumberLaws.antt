@@ -9,7 +9,7 @@ use mathlib.Core.List.{List, [], _∷_}
 use lib.ListN.{length}
 use lib.Dec.{ltb, leb}
 use Rattle.bits.specs.Bits.{pick}
-use Rattle.bus.specs.declared.Window.{Window}
+use Rattle.bus.specs.Bus.{Board}
 use Rattle.bus.specs.declared.Flow.{Flow}
 use Rattle.bus.specs.declared.Fetched.{Fetched}
 use Rattle.bus.specs.Bus.{all-of, read-long}
@@ -47,12 +47,12 @@ module _ {A : Type 0} (b c : Bool) (x y r : A) (d : c ≡ b) where
   pass-by t e = cc
 
 -- and where the first tests were: k is their number
-module _ (win : Window) (s m : List ℕ) (last k r : ℕ) (d : k ≡ first-tests win s m 0) where
-  pub first-refuses : (k ≡ 0 → ⊥) → r ≡ k → r ≡ first-tests win s m last
-  first-refuses z e = e ∙ d ∙ sym (first-stopped win s m last (λ q. z (d ∙ q)))
+module _ (board : Board) (s m : List ℕ) (last k r : ℕ) (d : k ≡ first-tests board s m 0) where
+  pub first-refuses : (k ≡ 0 → ⊥) → r ≡ k → r ≡ first-tests board s m last
+  first-refuses z e = e ∙ d ∙ sym (first-stopped board s m last (λ q. z (d ∙ q)))
 
-  pub first-passes : k ≡ 0 → r ≡ last → r ≡ first-tests win s m last
-  first-passes z e = e ∙ sym (first-passed win s m last (sym d ∙ z))
+  pub first-passes : k ≡ 0 → r ≡ last → r ≡ first-tests board s m last
+  first-passes z e = e ∙ sym (first-passed board s m last (sym d ∙ z))
 
 pub state-fits-is : (s : List ℕ) (b : Bool) → b ≡ valid-status (sr-of s) → (b && leb (mode-of s) 2) ≡ state-fits s
 state-fits-is s b e = cc

@@ -1,10 +1,12 @@
 // lib.rt - all of a call that takes no step: the numbers of the refusals, what a reset leaves, undo's answer.
 // Means: specs/Calls.antt of the crate calls.  Laws: proofs/NumberLaws.antt.
-// Uses: codes, bus, record, undo, exception, calls.  Source: [01 Calls and what they give back], [01 The journal], [K5], [K7].
+// Uses: codes, bus, record, undo, exception, calls.  Source: [01 Calls and what they give back], [01 The journal], [K5], [K7], [K10].
 ghost use mathlib.Core.Path.{_≡_};
+ghost use mathlib.Core.Bool.{true};
 ghost use Prim.Native.Nat.{_≤_};
 ghost use lib.ListN.{length};
-ghost use Rattle.calls.specs.Calls.{memory-fits, state-fits, window-fits, first-tests, reset-slots, refused-slots, no-room, step-tests, run-number, undo-number, undo-answer};
+ghost use Rattle.bus.specs.Bus.{board-of};
+ghost use Rattle.calls.specs.Calls.{memory-fits, rom-fits, state-fits, window-end, window-fits, first-tests, reset-number, reset-slots, refused-slots, no-room, step-tests, run-number, undo-number, undo-answer};
 use bus::Window;
 use calls::Manner;
 use calls::UndoAnswer;
@@ -29,26 +31,68 @@ pub fn state_fits(slots: &[u32; SLOTS]) -> bool
     status & (mode <= codes::HALTED)
 }
 
-// Whether a window is one that no call refuses.
-fn window_fits(win: Window, memory: &[u8]) -> bool
-    ensures { λ r. ⌜ r ≡ window-fits win (now (memory .entry)) ⌝ }
+// Whether a ROM is one that no call refuses beside this memory.
+fn rom_fits(rom: &[u8], memory: &[u8]) -> bool
+    ensures { λ r. ⌜ r ≡ rom-fits (now (rom .entry)) (now (memory .entry)) ⌝ }
 {
-    (win.lo <= win.hi) & (win.hi as usize <= memory.len())
+    let n = rom.len();
+    let apart = (n == 0) | (memory.len() <= codes::ROM_START as usize);
+    (n % 2 == 0) & (n <= codes::MOST_ROM) & apart
 }
 
-// The number of the refusal that step, run and undo judge first, or 0: 1, 2 or 10.
-pub fn first_number(slots: &[u32; SLOTS], win: Window, memory: &[u8]) -> u32
-    ensures { λ r. ⌜ r ≡ first-tests win (now (slots .entry)) (now (memory .entry)) 0 ⌝ }
+// Where what a window can show ends: where memory does, or, where there is one, the ROM.
+fn window_end(memory: &[u8], rom: &[u8]) -> usize
+    requires { ⌜ rom-fits (now rom) (now memory) ≡ true ⌝ }
+    ensures { λ r. ⌜ r ≡ window-end (now (rom .entry)) (now (memory .entry)) ⌝ }
+{
+    let none = rom.len() == 0;
+    if none {
+        return memory.len();
+    }
+    codes::ROM_START as usize + rom.len()
+}
+
+// Whether a window is one that no call refuses.
+fn window_fits(win: Window, memory: &[u8], rom: &[u8]) -> bool
+    requires { ⌜ rom-fits (now rom) (now memory) ≡ true ⌝ }
+    ensures { λ r. ⌜ r ≡ window-fits (board-of win (now (rom .entry))) (now (memory .entry)) ⌝ }
+{
+    let end = window_end(memory, rom);
+    (win.lo <= win.hi) & (win.hi as usize <= end)
+}
+
+// The number of the refusal that a reset gives, or 0: 1 or 12.
+pub fn reset_number(memory: &[u8], rom: &[u8]) -> u32
+    ensures { λ r. ⌜ r ≡ reset-number (now (memory .entry)) (now (rom .entry)) ⌝ }
 {
     let fits = memory_fits(memory);
     if !fits {
         return 1;
     }
+    let beside = rom_fits(rom, memory);
+    if !beside {
+        return 12;
+    }
+    0
+}
+
+// The number of the refusal that step, run and undo judge first, or 0: 1, 12, 2 or 10.
+pub fn first_number(slots: &[u32; SLOTS], win: Window, memory: &[u8], rom: &[u8]) -> u32
+    ensures { λ r. ⌜ r ≡ first-tests (board-of win (now (rom .entry))) (now (slots .entry)) (now (memory .entry)) 0 ⌝ }
+{
+    let fits = memory_fits(memory);
+    if !fits {
+        return 1;
+    }
+    let beside = rom_fits(rom, memory);
+    if !beside {
+        return 12;
+    }
     let valid = state_fits(slots);
     if !valid {
         return 2;
     }
-    let within = window_fits(win, memory);
+    let within = window_fits(win, memory, rom);
     if !within {
         return 10;
     }
@@ -130,13 +174,14 @@ pub fn step_number(
     slots: &[u32; SLOTS],
     win: Window,
     memory: &[u8],
+    rom: &[u8],
     level: u32,
     journal: &[u8],
     mark: usize,
 ) -> u32
-    ensures { λ r. ⌜ r ≡ step-tests manner win (now (slots .entry)) (now (memory .entry)) level (now (journal .entry)) mark 0 ⌝ }
+    ensures { λ r. ⌜ r ≡ step-tests manner (board-of win (now (rom .entry))) (now (slots .entry)) (now (memory .entry)) level (now (journal .entry)) mark 0 ⌝ }
 {
-    let first = first_number(slots, win, memory);
+    let first = first_number(slots, win, memory, rom);
     if first != 0 {
         return first;
     }
@@ -164,13 +209,14 @@ pub fn run_number(
     slots: &[u32; SLOTS],
     win: Window,
     memory: &[u8],
+    rom: &[u8],
     budget: u32,
     journal: &[u8],
     mark: usize,
 ) -> u32
-    ensures { λ r. ⌜ r ≡ run-number win (now (slots .entry)) (now (memory .entry)) budget (now (journal .entry)) mark ⌝ }
+    ensures { λ r. ⌜ r ≡ run-number (board-of win (now (rom .entry))) (now (slots .entry)) (now (memory .entry)) budget (now (journal .entry)) mark ⌝ }
 {
-    let first = first_number(slots, win, memory);
+    let first = first_number(slots, win, memory, rom);
     if first != 0 {
         return first;
     }
@@ -190,12 +236,13 @@ pub fn undo_number(
     slots: &[u32; SLOTS],
     win: Window,
     memory: &[u8],
+    rom: &[u8],
     journal: &[u8],
     mark: usize,
 ) -> u32
-    ensures { λ r. ⌜ r ≡ undo-number win (now (slots .entry)) (now (memory .entry)) (now (journal .entry)) mark ⌝ }
+    ensures { λ r. ⌜ r ≡ undo-number (board-of win (now (rom .entry))) (now (slots .entry)) (now (memory .entry)) (now (journal .entry)) mark ⌝ }
 {
-    let first = first_number(slots, win, memory);
+    let first = first_number(slots, win, memory, rom);
     if first != 0 {
         return first;
     }

@@ -7,7 +7,7 @@ use mathlib.Core.Path.{_≡_, ap, subst, _∙_}
 use mathlib.Core.List.{List}
 use lib.ListN.{length}
 use borrow.Author.Tests.{eq-eqb, ne-eqb}
-use Rattle.bus.specs.declared.Window.{Window}
+use Rattle.bus.specs.Bus.{Board}
 use Rattle.calls.specs.declared.Manner.{Manner}
 use Rattle.calls.specs.declared.ResetAnswer.{ResetAnswer}
 use Rattle.calls.specs.declared.StepAnswer.{StepAnswer}
@@ -36,45 +36,45 @@ module _ (b m : List ℕ) where
       let y = eq-eqb (length b) block-length e in record { block = rw y (q ∙ ap block-of (p .slots)); answer = rw y (p .answer) }
 
 -- ---- step
-module _ (w : Manner) (b : List ℕ) (win : Window) (m : List ℕ) (level vector : ℕ) (j : List ℕ) (mark : ℕ) where
-  pub ibz-step-nine : (length b ≡ block-length → ⊥) → IbzStepPromise w b win m level vector j mark b m j (step-refusal mark no-block)
+module _ (w : Manner) (b : List ℕ) (board : Board) (m : List ℕ) (level vector : ℕ) (j : List ℕ) (mark : ℕ) where
+  pub ibz-step-nine : (length b ≡ block-length → ⊥) → IbzStepPromise w b board m level vector j mark b m j (step-refusal mark no-block)
   unfolding ibz-step
   ibz-step-nine h = let y = ne-eqb (length b) block-length h in record { block = rw y; memory = rw y; journal = rw y; answer = rw y }
 
   pub ibz-step-held : length b ≡ block-length → (s s₁ m₁ j₁ : List ℕ) (a : StepAnswer) → s ≡ slots-in b
-      → StepPromise w win s m level vector j mark s₁ m₁ j₁ a
-      → (b₁ : List ℕ) → b₁ ≡ block-of s₁ → IbzStepPromise w b win m level vector j mark b₁ m₁ j₁ a
+      → StepPromise w board s m level vector j mark s₁ m₁ j₁ a
+      → (b₁ : List ℕ) → b₁ ≡ block-of s₁ → IbzStepPromise w b board m level vector j mark b₁ m₁ j₁ a
   unfolding ibz-step
   ibz-step-held e s s₁ m₁ j₁ a l p b₁ q =
       let y = eq-eqb (length b) block-length e in
-      let p′ = subst (λ (t : List ℕ). StepPromise w win t m level vector j mark s₁ m₁ j₁ a) l p in
+      let p′ = subst (λ (t : List ℕ). StepPromise w board t m level vector j mark s₁ m₁ j₁ a) l p in
       record { block = rw y (q ∙ ap block-of (p′ .slots)); memory = rw y (p′ .memory); journal = rw y (p′ .journal); answer = rw y (p′ .answer) }
 
 -- ---- run
-module _ (w : Manner) (b : List ℕ) (win : Window) (m : List ℕ) (budget stop : ℕ) (j : List ℕ) (mark : ℕ) where
-  pub ibz-run-nine : (length b ≡ block-length → ⊥) → IbzRunPromise w b win m budget stop j mark b m j (run-refusal mark no-block)
+module _ (w : Manner) (b : List ℕ) (board : Board) (m : List ℕ) (budget stop : ℕ) (j : List ℕ) (mark : ℕ) where
+  pub ibz-run-nine : (length b ≡ block-length → ⊥) → IbzRunPromise w b board m budget stop j mark b m j (run-refusal mark no-block)
   unfolding ibz-run
   ibz-run-nine h = let y = ne-eqb (length b) block-length h in record { block = rw y; memory = rw y; journal = rw y; answer = rw y }
 
   pub ibz-run-held : length b ≡ block-length → (s s₁ m₁ j₁ : List ℕ) (a : RunAnswer) → s ≡ slots-in b
-      → RunPromise w win s m budget stop j mark s₁ m₁ j₁ a
-      → (b₁ : List ℕ) → b₁ ≡ block-of s₁ → IbzRunPromise w b win m budget stop j mark b₁ m₁ j₁ a
+      → RunPromise w board s m budget stop j mark s₁ m₁ j₁ a
+      → (b₁ : List ℕ) → b₁ ≡ block-of s₁ → IbzRunPromise w b board m budget stop j mark b₁ m₁ j₁ a
   unfolding ibz-run
   ibz-run-held e s s₁ m₁ j₁ a l p b₁ q =
       let y = eq-eqb (length b) block-length e in
-      let p′ = subst (λ (t : List ℕ). RunPromise w win t m budget stop j mark s₁ m₁ j₁ a) l p in
+      let p′ = subst (λ (t : List ℕ). RunPromise w board t m budget stop j mark s₁ m₁ j₁ a) l p in
       record { block = rw y (q ∙ ap block-of (p′ .slots)); memory = rw y (p′ .memory); journal = rw y (p′ .journal); answer = rw y (p′ .answer) }
 
 -- ---- undo
-module _ (b : List ℕ) (win : Window) (m j : List ℕ) (mark : ℕ) where
-  pub ibz-undo-nine : (length b ≡ block-length → ⊥) → IbzUndoPromise b win m j mark b m (undo-refusal mark no-block)
+module _ (b : List ℕ) (board : Board) (m j : List ℕ) (mark : ℕ) where
+  pub ibz-undo-nine : (length b ≡ block-length → ⊥) → IbzUndoPromise b board m j mark b m (undo-refusal mark no-block)
   unfolding ibz-undo
   ibz-undo-nine h = let y = ne-eqb (length b) block-length h in record { block = rw y; memory = rw y; answer = rw y }
 
-  pub ibz-undo-held : length b ≡ block-length → (s s₁ m₁ : List ℕ) (a : UndoAnswer) → s ≡ slots-in b → UndoPromise win s m j mark s₁ m₁ a
-      → (b₁ : List ℕ) → b₁ ≡ block-of s₁ → IbzUndoPromise b win m j mark b₁ m₁ a
+  pub ibz-undo-held : length b ≡ block-length → (s s₁ m₁ : List ℕ) (a : UndoAnswer) → s ≡ slots-in b → UndoPromise board s m j mark s₁ m₁ a
+      → (b₁ : List ℕ) → b₁ ≡ block-of s₁ → IbzUndoPromise b board m j mark b₁ m₁ a
   unfolding ibz-undo
   ibz-undo-held e s s₁ m₁ a l p b₁ q =
       let y = eq-eqb (length b) block-length e in
-      let p′ = subst (λ (t : List ℕ). UndoPromise win t m j mark s₁ m₁ a) l p in
+      let p′ = subst (λ (t : List ℕ). UndoPromise board t m j mark s₁ m₁ a) l p in
       record { block = rw y (q ∙ ap block-of (p′ .slots)); memory = rw y (p′ .memory); answer = rw y (p′ .answer) }

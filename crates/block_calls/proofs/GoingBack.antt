@@ -32,7 +32,7 @@ use Rattle.block_calls.proofs.CallLaws.{on-block-held}
 
 -- the box of a machine: the block that holds its slots
 abbrev pub box-of : Machine → Box
-box-of y = record { block = block-of (y .slots); window = y .window; memory = y .memory; journal = y .journal; mark = y .mark }
+box-of y = record { block = block-of (y .slots); board = y .board; memory = y .memory; journal = y .journal; mark = y .mark }
 
 -- ---- one call on a block of 80 bytes
 -- its answer is that of the machine's call, and the block that it leaves holds the slots that the machine's call leaves
@@ -58,9 +58,9 @@ module _ (w : Manner) (x : Box) (e : length (x .block) ≡ block-length) where
   -- so the box after it is that of the machine after the machine's call, and the answers tell the same
   ibz-act-held : (c : Call) → ibz-act w c x ≡ box-of (act w c (machine-in x))
   unfolding act ibz-act
-  ibz-act-held (step-of level vector) = ap (box-left (λ a. a .mark) (x .window)) (ibz-stepping-held level vector)
-  ibz-act-held (run-of budget stop) = ap (box-left (λ a. a .mark) (x .window)) (ibz-running-held budget stop)
-  ibz-act-held undo-once = ap (box-left (λ a. a .mark) (x .window)) (ibz-undoing-held x e)
+  ibz-act-held (step-of level vector) = ap (box-left (λ a. a .mark) (x .board)) (ibz-stepping-held level vector)
+  ibz-act-held (run-of budget stop) = ap (box-left (λ a. a .mark) (x .board)) (ibz-running-held budget stop)
+  ibz-act-held undo-once = ap (box-left (λ a. a .mark) (x .board)) (ibz-undoing-held x e)
 
   number-held : (c : Call) → ibz-number w c x ≡ number-told w c (machine-in x)
   number-held (step-of level vector) = ap (λ c. c .a .number) (ibz-stepping-held level vector)
@@ -79,7 +79,7 @@ module _ (w : Manner) (x : Box) (e : length (x .block) ≡ block-length) where
   carried-one c =
       let y = act w c (machine-in x) in
       ap machine-in (ibz-act-held c)
-      ∙ ap {B = Machine} (λ (s : List ℕ). record { window = y .window; slots = s; memory = y .memory; journal = y .journal; mark = y .mark })
+      ∙ ap {B = Machine} (λ (s : List ℕ). record { board = y .board; slots = s; memory = y .memory; journal = y .journal; mark = y .mark })
       (slots-in-block (y .slots) (twenty-after c))
 
   fits-after : (c : Call) → length (ibz-act w c x .block) ≡ block-length
@@ -133,7 +133,7 @@ pub record Lends (x : Box) : Type 0 where
 
 -- what is seen of the box is the block of what is seen of the machine in it
 seen-in-block : (z : Box) → block-of (slots-in (z .block)) ≡ z .block → ibz-seen z ≡ in-block (seen (machine-in z))
-seen-in-block z q = ap {B = BoxSeen} (λ (b : List ℕ). record { block = b; window = z .window; memory = z .memory; mark = z .mark }) (sym q)
+seen-in-block z q = ap {B = BoxSeen} (λ (b : List ℕ). record { block = b; board = z .board; memory = z .memory; mark = z .mark }) (sym q)
 
 module _ (x : Box) (l : Lends x) where
   pub lent-in : Lent (machine-in x .slots) (machine-in x .memory)

@@ -4,7 +4,7 @@
 use Prim.Native.Nat.{ℕ}
 use mathlib.Core.Path.{_≡_}
 use mathlib.Core.List.{List}
-use Rattle.bus.specs.declared.Window.{Window}
+use Rattle.bus.specs.Bus.{Board}
 use Rattle.calls.specs.declared.Manner.{Manner}
 use Rattle.calls.specs.declared.ResetAnswer.{ResetAnswer}
 use Rattle.calls.specs.declared.StepAnswer.{StepAnswer}
@@ -15,19 +15,19 @@ use Rattle.block_calls.specs.Promises.{IbzResetPromise, IbzStepPromise, 
 pub ibz-reset-unique : (b m b₁ b₂ : List ℕ) (a₁ a₂ : ResetAnswer) → IbzResetPromise b m b₁ a₁ → IbzResetPromise b m b₂ a₂ → (b₁ ≡ b₂) × (a₁ ≡ a₂)
 ibz-reset-unique b m b₁ b₂ a₁ a₂ p q = (cc, cc)
 
-pub ibz-step-unique : (w : Manner) (b : List ℕ) (win : Window) (m : List ℕ) (level vector : ℕ) (j : List ℕ) (mark : ℕ)
+pub ibz-step-unique : (w : Manner) (b : List ℕ) (board : Board) (m : List ℕ) (level vector : ℕ) (j : List ℕ) (mark : ℕ)
     (b₁ m₁ j₁ : List ℕ) (a₁ : StepAnswer) (b₂ m₂ j₂ : List ℕ) (a₂ : StepAnswer)
-    → IbzStepPromise w b win m level vector j mark b₁ m₁ j₁ a₁ → IbzStepPromise w b win m level vector j mark b₂ m₂ j₂ a₂
+    → IbzStepPromise w b board m level vector j mark b₁ m₁ j₁ a₁ → IbzStepPromise w b board m level vector j mark b₂ m₂ j₂ a₂
     → (b₁ ≡ b₂) × (m₁ ≡ m₂) × (j₁ ≡ j₂) × (a₁ ≡ a₂)
-ibz-step-unique w b win m level vector j mark b₁ m₁ j₁ a₁ b₂ m₂ j₂ a₂ p q = (cc, cc, cc, cc)
+ibz-step-unique w b board m level vector j mark b₁ m₁ j₁ a₁ b₂ m₂ j₂ a₂ p q = (cc, cc, cc, cc)
 
-pub ibz-run-unique : (w : Manner) (b : List ℕ) (win : Window) (m : List ℕ) (budget stop : ℕ) (j : List ℕ) (mark : ℕ)
+pub ibz-run-unique : (w : Manner) (b : List ℕ) (board : Board) (m : List ℕ) (budget stop : ℕ) (j : List ℕ) (mark : ℕ)
     (b₁ m₁ j₁ : List ℕ) (a₁ : RunAnswer) (b₂ m₂ j₂ : List ℕ) (a₂ : RunAnswer)
-    → IbzRunPromise w b win m budget stop j mark b₁ m₁ j₁ a₁ → IbzRunPromise w b win m budget stop j mark b₂ m₂ j₂ a₂
+    → IbzRunPromise w b board m budget stop j mark b₁ m₁ j₁ a₁ → IbzRunPromise w b board m budget stop j mark b₂ m₂ j₂ a₂
     → (b₁ ≡ b₂) × (m₁ ≡ m₂) × (j₁ ≡ j₂) × (a₁ ≡ a₂)
-ibz-run-unique w b win m budget stop j mark b₁ m₁ j₁ a₁ b₂ m₂ j₂ a₂ p q = (cc, cc, cc, cc)
+ibz-run-unique w b board m budget stop j mark b₁ m₁ j₁ a₁ b₂ m₂ j₂ a₂ p q = (cc, cc, cc, cc)
 
-pub ibz-undo-unique : (b : List ℕ) (win : Window) (m j : List ℕ) (mark : ℕ) (b₁ m₁ : List ℕ) (a₁ : UndoAnswer) (b₂ m₂ : List ℕ) (a₂ : UndoAnswer)
-    → IbzUndoPromise b win m j mark b₁ m₁ a₁ → IbzUndoPromise b win m j mark b₂ m₂ a₂
+pub ibz-undo-unique : (b : List ℕ) (board : Board) (m j : List ℕ) (mark : ℕ) (b₁ m₁ : List ℕ) (a₁ : UndoAnswer) (b₂ m₂ : List ℕ) (a₂ : UndoAnswer)
+    → IbzUndoPromise b board m j mark b₁ m₁ a₁ → IbzUndoPromise b board m j mark b₂ m₂ a₂
     → (b₁ ≡ b₂) × (m₁ ≡ m₂) × (a₁ ≡ a₂)
-ibz-undo-unique b win m j mark b₁ m₁ a₁ b₂ m₂ a₂ p q = (cc, cc, cc)
+ibz-undo-unique b board m j mark b₁ m₁ a₁ b₂ m₂ a₂ p q = (cc, cc, cc)

@@ -17,7 +17,7 @@ use lib.Dec.{eqb}
 use borrow.Author.Tests.{eqb-true, eqb-false, eq-eqb, ne-eqb, not-true}
 use Rattle.bits.specs.Bits.{pick}
 use Rattle.bits.proofs.BitsLaws.{and-left, and-right}
-use Rattle.bus.specs.declared.Window.{Window}
+use Rattle.bus.specs.Bus.{Board}
 use Rattle.record.specs.Limits.{ValidBytes}
 use Rattle.calls.specs.declared.Manner.{Manner}
 use Rattle.calls.specs.declared.Manner.the-variants.{Dropping, Keeping}
@@ -130,71 +130,71 @@ module _ (b m : List ℕ) where
   ibz-reset-refused e h = rw (eq-eqb (length b) block-length e) (ap block-of (reset-refused m h))
 
 -- ---- step
-module _ (w : Manner) (b : List ℕ) (win : Window) (m : List ℕ) (level vector : ℕ) (j : List ℕ) (mark : ℕ) where
+module _ (w : Manner) (b : List ℕ) (board : Board) (m : List ℕ) (level vector : ℕ) (j : List ℕ) (mark : ℕ) where
   abbrev stepped : StepCall
-  stepped = step-call w win (slots-in b) m level vector j mark
+  stepped = step-call w board (slots-in b) m level vector j mark
 
   abbrev step-lines : List Line
-  step-lines = step-table w win (slots-in b) m level j mark
+  step-lines = step-table w board (slots-in b) m level j mark
 
-  pub ibz-step-verdict : IbzVerdict b (ibz-step-table w b win m level j mark) (ibz-step w b win m level vector j mark .a .number)
+  pub ibz-step-verdict : IbzVerdict b (ibz-step-table w b board m level j mark) (ibz-step w b board m level vector j mark .a .number)
   unfolding ibz-step
   ibz-step-verdict =
-      let v = step-verdict w win (slots-in b) m level j mark vector in
+      let v = step-verdict w board (slots-in b) m level j mark vector in
       ibz-verdict b step-lines (stepped .a .number) v (others w) (λ (c : OnBlock StepAnswer). c .a .number) _ _ refl refl
     where
-      others : (w : Manner) → without-nine (step-table w win (slots-in b) m level j mark) ≡ true
+      others : (w : Manner) → without-nine (step-table w board (slots-in b) m level j mark) ≡ true
       others Dropping = refl
       others Keeping = refl
 
-  pub ibz-step-refused : ValidBytes b → (ibz-step w b win m level vector j mark .a .number ≡ 0 → ⊥)
-      → (let c = ibz-step w b win m level vector j mark in c ≡ record { b = b; m = m; j = j; a = step-refusal mark (c .a .number) })
+  pub ibz-step-refused : ValidBytes b → (ibz-step w b board m level vector j mark .a .number ≡ 0 → ⊥)
+      → (let c = ibz-step w b board m level vector j mark in c ≡ record { b = b; m = m; j = j; a = step-refusal mark (c .a .number) })
   unfolding ibz-step
   ibz-step-refused bytes =
       on-block-refused (λ a. a .number) (step-refusal mark) (λ n. refl) b m j bytes (stepped .s) (stepped .m) (stepped .j) (stepped .a)
-      (λ h. let r = step-refused w win (slots-in b) m level j mark vector h in
+      (λ h. let r = step-refused w board (slots-in b) m level j mark vector h in
       record { slots = λ i. r i .s; memory = λ i. r i .m; journal = λ i. r i .j; answer = λ i. r i .a })
 
 -- ---- run
-module _ (w : Manner) (b : List ℕ) (win : Window) (m : List ℕ) (budget stop : ℕ) (j : List ℕ) (mark : ℕ) where
+module _ (w : Manner) (b : List ℕ) (board : Board) (m : List ℕ) (budget stop : ℕ) (j : List ℕ) (mark : ℕ) where
   abbrev ran : RunCall
-  ran = run-call w win (slots-in b) m budget stop j mark
+  ran = run-call w board (slots-in b) m budget stop j mark
 
   abbrev run-lines : List Line
-  run-lines = run-table win (slots-in b) m budget j mark
+  run-lines = run-table board (slots-in b) m budget j mark
 
-  pub ibz-run-verdict : IbzVerdict b (ibz-run-table b win m budget j mark) (ibz-run w b win m budget stop j mark .a .number)
+  pub ibz-run-verdict : IbzVerdict b (ibz-run-table b board m budget j mark) (ibz-run w b board m budget stop j mark .a .number)
   unfolding ibz-run
   ibz-run-verdict =
-      let v = run-verdict win (slots-in b) m budget j mark w stop in
+      let v = run-verdict board (slots-in b) m budget j mark w stop in
       ibz-verdict b run-lines (ran .a .number) v refl (λ (c : OnBlock RunAnswer). c .a .number) _ _ refl refl
 
-  pub ibz-run-refused : ValidBytes b → (ibz-run w b win m budget stop j mark .a .number ≡ 0 → ⊥)
-      → (let c = ibz-run w b win m budget stop j mark in c ≡ record { b = b; m = m; j = j; a = run-refusal mark (c .a .number) })
+  pub ibz-run-refused : ValidBytes b → (ibz-run w b board m budget stop j mark .a .number ≡ 0 → ⊥)
+      → (let c = ibz-run w b board m budget stop j mark in c ≡ record { b = b; m = m; j = j; a = run-refusal mark (c .a .number) })
   unfolding ibz-run
   ibz-run-refused bytes =
       on-block-refused (λ a. a .number) (run-refusal mark) (λ n. refl) b m j bytes (ran .s) (ran .m) (ran .j) (ran .a)
-      (λ h. let r = run-refused win (slots-in b) m budget j mark w stop h in
+      (λ h. let r = run-refused board (slots-in b) m budget j mark w stop h in
       record { slots = λ i. r i .s; memory = λ i. r i .m; journal = λ i. r i .j; answer = λ i. r i .a })
 
 -- ---- undo
-module _ (b : List ℕ) (win : Window) (m j : List ℕ) (mark : ℕ) where
+module _ (b : List ℕ) (board : Board) (m j : List ℕ) (mark : ℕ) where
   abbrev undone : UndoCall
-  undone = undo-call win (slots-in b) m j mark
+  undone = undo-call board (slots-in b) m j mark
 
   abbrev undo-lines : List Line
-  undo-lines = undo-table win (slots-in b) m j mark
+  undo-lines = undo-table board (slots-in b) m j mark
 
-  pub ibz-undo-verdict : IbzVerdict b (ibz-undo-table b win m j mark) (ibz-undo b win m j mark .a .number)
+  pub ibz-undo-verdict : IbzVerdict b (ibz-undo-table b board m j mark) (ibz-undo b board m j mark .a .number)
   unfolding ibz-undo
   ibz-undo-verdict =
-      let v = undo-verdict win (slots-in b) m j mark in
+      let v = undo-verdict board (slots-in b) m j mark in
       ibz-verdict b undo-lines (undone .a .number) v refl (λ (c : OnBlock UndoAnswer). c .a .number) _ _ refl refl
 
-  pub ibz-undo-refused : ValidBytes b → (ibz-undo b win m j mark .a .number ≡ 0 → ⊥)
-      → (let c = ibz-undo b win m j mark in c ≡ record { b = b; m = m; j = j; a = undo-refusal mark (c .a .number) })
+  pub ibz-undo-refused : ValidBytes b → (ibz-undo b board m j mark .a .number ≡ 0 → ⊥)
+      → (let c = ibz-undo b board m j mark in c ≡ record { b = b; m = m; j = j; a = undo-refusal mark (c .a .number) })
   unfolding ibz-undo
   ibz-undo-refused bytes =
       on-block-refused (λ a. a .number) (undo-refusal mark) (λ n. refl) b m j bytes (undone .s) (undone .m) j (undone .a)
-      (λ h. let r = undo-refused win (slots-in b) m j mark h in
+      (λ h. let r = undo-refused board (slots-in b) m j mark h in
       record { slots = λ i. r i .s; memory = λ i. r i .m; journal = refl; answer = λ i. r i .a })

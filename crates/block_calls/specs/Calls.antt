@@ -1,13 +1,13 @@
 -- Calls.antt - reset, step, run and undo from C: the machine's calls on the slots that the block holds, and refusal 9 before all others.
 -- After a call the block holds the returned state; at 9 nothing is read, judged or altered. Step and run go by a manner, as the machine's.
--- Uses: bits, block, calls.  Laws: proofs/.  Source: [K1], [K2], [K5], [K7].
+-- Uses: bits, block, calls.  Laws: proofs/.  Source: [K1], [K2], [K5], [K7], [K10].
 use Prim.Native.Nat.{ℕ}
 use mathlib.Core.Bool.{Bool}
 use mathlib.Core.List.{List}
 use lib.ListN.{length}
 use lib.Dec.{eqb}
 use Rattle.bits.specs.Bits.{pick}
-use Rattle.bus.specs.declared.Window.{Window}
+use Rattle.bus.specs.Bus.{Board}
 use Rattle.calls.specs.declared.Manner.{Manner}
 use Rattle.calls.specs.declared.ResetAnswer.{ResetAnswer}
 use Rattle.calls.specs.declared.StepAnswer.{StepAnswer}
@@ -26,16 +26,16 @@ block-fits b = eqb (length b) block-length
 
 -- ---- reset
 
--- the block after a reset, and its answer; memory is only read  [ours]
+-- the block after a reset, and its answer; memory and ROM are only read  [ours]
 pub record IbzReset : Type 0 where
   pub b : List ℕ
   pub a : ResetAnswer
 
--- the machine's reset, its slots put into the block; at 9 the block stays, and the window is none  [K1] [K7]
-unfoldable pub ibz-reset : List ℕ → List ℕ → IbzReset
-ibz-reset b m =
+-- the machine's reset, its slots put into the block; at 9 the block stays, and the window is none  [K1] [K7] [K10]
+unfoldable pub ibz-reset : List ℕ → List ℕ → List ℕ → IbzReset
+ibz-reset b m rom =
     pick (block-fits b)
-    (record { b = block-of (reset-call m); a = reset-answer m })
+    (record { b = block-of (reset-call m rom); a = reset-answer m rom })
     (record { b = b; a = record { number = no-block; lo = 0; hi = 0 } })
 
 -- ---- step, run and undo
@@ -67,16 +67,16 @@ abbrev pub undo-refusal : ℕ → ℕ → UndoAnswer
 undo-refusal mark n = record { number = n; mark = mark }
 
 -- the machine's step on the slots that the block holds, in either manner  [K1] [K5] [K7]
-unfoldable pub ibz-step : Manner → List ℕ → Window → List ℕ → ℕ → ℕ → List ℕ → ℕ → OnBlock StepAnswer
-ibz-step w b win m level vector j mark =
-    let c = step-call w win (slots-in b) m level vector j mark in on-block b m j (step-refusal mark) (c .s) (c .m) (c .j) (c .a)
+unfoldable pub ibz-step : Manner → List ℕ → Board → List ℕ → ℕ → ℕ → List ℕ → ℕ → OnBlock StepAnswer
+ibz-step w b board m level vector j mark =
+    let c = step-call w board (slots-in b) m level vector j mark in on-block b m j (step-refusal mark) (c .s) (c .m) (c .j) (c .a)
 
 -- the machine's run on them, in either manner  [K1] [K5] [K7]
-unfoldable pub ibz-run : Manner → List ℕ → Window → List ℕ → ℕ → ℕ → List ℕ → ℕ → OnBlock RunAnswer
-ibz-run w b win m budget stop j mark =
-    let c = run-call w win (slots-in b) m budget stop j mark in on-block b m j (run-refusal mark) (c .s) (c .m) (c .j) (c .a)
+unfoldable pub ibz-run : Manner → List ℕ → Board → List ℕ → ℕ → ℕ → List ℕ → ℕ → OnBlock RunAnswer
+ibz-run w b board m budget stop j mark =
+    let c = run-call w board (slots-in b) m budget stop j mark in on-block b m j (run-refusal mark) (c .s) (c .m) (c .j) (c .a)
 
 -- the machine's undo on them; it only reads the journal  [K1] [K7]
-unfoldable pub ibz-undo : List ℕ → Window → List ℕ → List ℕ → ℕ → OnBlock UndoAnswer
-ibz-undo b win m j mark =
-    let c = undo-call win (slots-in b) m j mark in on-block b m j (undo-refusal mark) (c .s) (c .m) j (c .a)
+unfoldable pub ibz-undo : List ℕ → Board → List ℕ → List ℕ → ℕ → OnBlock UndoAnswer
+ibz-undo b board m j mark =
+    let c = undo-call board (slots-in b) m j mark in on-block b m j (undo-refusal mark) (c .s) (c .m) j (c .a)

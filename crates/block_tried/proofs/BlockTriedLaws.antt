@@ -6,7 +6,7 @@ use mathlib.Core.Path.{_≡_, sym, ap, _∙_}
 use mathlib.Core.List.{List}
 use lib.ListN.{length}
 use Rattle.record.specs.Limits.{slot-limit}
-use Rattle.bus.specs.declared.Window.{Window}
+use Rattle.bus.specs.Bus.{Board}
 use Rattle.tries.specs.declared.TryAnswer.{TryAnswer}
 use Rattle.tries.specs.declared.BackAnswer.{BackAnswer}
 use Rattle.tries.specs.Tries.{TryCall, BackCall, back-call}
@@ -24,7 +24,7 @@ use Rattle.block_calls.proofs.CallLaws.{on-block-held}
 use Rattle.block_calls.proofs.GoingBack.{Lends, lent-in, held}
 use Rattle.block_tried.specs.BlockTried.{ibz-trying, ibz-backing, ibz-taken-back}
 
-module _ (old : Window) (count : ℕ) (x : Box) (l : Lends x) where
+module _ (old : Board) (count : ℕ) (x : Box) (l : Lends x) where
   abbrev y : Machine
   y = machine-in x
 
@@ -46,22 +46,22 @@ module _ (old : Window) (count : ℕ) (x : Box) (l : Lends x) where
   fits-again = length-of-block (c .s) ∙ ap (λ (n : ℕ). 4 * n) twenty
 
   abbrev backed : List ℕ → BackCall
-  backed s = back-call (x .window) old s (c .m) (c .j) (c .a .mark) (c .a .steps)
+  backed s = back-call (x .board) old s (c .m) (c .j) (c .a .mark) (c .a .steps)
 
   back-is : backed (slots-in (block-of (c .s))) ≡ taken-back old count y
   back-is = ap backed (slots-in-block (c .s) twenty) ∙ take-back old count y fit
 
-  back-held : ibz-back (block-of (c .s)) (x .window) (c .m) (c .j) (c .a .mark) (c .a .steps) old
+  back-held : ibz-back (block-of (c .s)) (x .board) (c .m) (c .j) (c .a .mark) (c .a .steps) old
       ≡ (let d = backed (slots-in (block-of (c .s))) in held (d .s) (d .m) (c .j) (d .a))
   unfolding ibz-back
-  back-held = on-block-held (block-of (c .s)) (c .m) (c .j) (back-refusal (x .window) (c .a .mark)) _ _ _ _ fits-again
+  back-held = on-block-held (block-of (c .s)) (c .m) (c .j) (back-refusal (x .board) (c .a .mark)) _ _ _ _ fits-again
 
   same-block : block-of (slots-in (x .block)) ≡ x .block
   same-block = block-of-slots-in (x .block) (l .fits) (l .block-bytes)
 
   pub ibz-all-taken-back : ibz-backing old count x ≡ ibz-taken-back old count x
   ibz-all-taken-back =
-      ap (λ (t : OnBlock TryAnswer). ibz-back (t .b) (x .window) (t .m) (t .j) (t .a .mark) (t .a .steps) old) tried-held
+      ap (λ (t : OnBlock TryAnswer). ibz-back (t .b) (x .board) (t .m) (t .j) (t .a .mark) (t .a .steps) old) tried-held
       ∙ back-held
       ∙ ap (λ (d : BackCall). held (d .s) (d .m) (c .j) (d .a)) back-is
       ∙ ap (λ (b : List ℕ). ended b (c .j) (c .a .steps)) same-block

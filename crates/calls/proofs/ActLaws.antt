@@ -28,40 +28,40 @@ use Rattle.calls.proofs.RefusalLaws.{step-call-number, step-accepted, s
 
 -- a machine by what is seen of it and its journal
 abbrev pub machine-at : Seen → List ℕ → Machine
-machine-at a j = record { window = a .window; slots = a .slots; memory = a .memory; journal = j; mark = a .mark }
+machine-at a j = record { board = a .board; slots = a .slots; memory = a .memory; journal = j; mark = a .mark }
 
 pub act-undo-refused : (w : Manner) (x : Machine) → (undoing x .a .number ≡ 0 → ⊥) → act w undo-once x ≡ x
 unfolding act
 act-undo-refused w x h =
-    ap (λ (c : UndoCall). record { window = x .window; slots = c .s; memory = c .m; journal = x .journal; mark = c .a .mark }) (undo-refused (x .window) (x .slots) (x .memory) (x .journal) (x .mark) h)
+    ap (λ (c : UndoCall). record { board = x .board; slots = c .s; memory = c .m; journal = x .journal; mark = c .a .mark }) (undo-refused (x .board) (x .slots) (x .memory) (x .journal) (x .mark) h)
 
 module _ (r : Request) (a : Seen) (v : Valid (a .slots) (a .memory)) where
   pub valid-after : Valid (one-more r a .slots) (one-more r a .memory)
   unfolding one-more
-  valid-after = valid-after-step (a .window) (a .slots) (a .memory) (r .level) (r .vector) v
+  valid-after = valid-after-step (a .board) (a .slots) (a .memory) (r .level) (r .vector) v
 
   pub lent-after : Lent (one-more r a .slots) (one-more r a .memory)
   lent-after = lent-when-valid (one-more r a .slots) (one-more r a .memory) valid-after
 
-  pub window-after : window-fits (a .window) (a .memory) ≡ true → window-fits (one-more r a .window) (one-more r a .memory) ≡ true
+  pub window-after : window-fits (a .board) (a .memory) ≡ true → window-fits (one-more r a .board) (one-more r a .memory) ≡ true
   unfolding one-more
-  window-after = window-after-step (a .window) (a .slots) (a .memory) (r .level) (r .vector) v
+  window-after = window-after-step (a .board) (a .slots) (a .memory) (r .level) (r .vector) v
 
   pub record-after-length : length (record-after r a) ≤ longest-record
   unfolding record-after
-  record-after-length = record-room (a .window) (a .slots) (a .memory) (r .level) (r .vector) v
+  record-after-length = record-room (a .board) (a .slots) (a .memory) (r .level) (r .vector) v
 
 module _ (w : Manner) where
   -- ---- refused calls
   pub act-step-refused : (level vector : ℕ) (x : Machine) → (stepping w level vector x .a .number ≡ 0 → ⊥) → act w (step-of level vector) x ≡ x
   unfolding act
   act-step-refused level vector x h =
-      ap (λ (c : StepCall). record { window = x .window; slots = c .s; memory = c .m; journal = c .j; mark = c .a .mark }) (step-refused w (x .window) (x .slots) (x .memory) level (x .journal) (x .mark) vector h)
+      ap (λ (c : StepCall). record { board = x .board; slots = c .s; memory = c .m; journal = c .j; mark = c .a .mark }) (step-refused w (x .board) (x .slots) (x .memory) level (x .journal) (x .mark) vector h)
 
   pub act-run-refused : (budget stop : ℕ) (x : Machine) → (running-on w budget stop x .a .number ≡ 0 → ⊥) → act w (run-of budget stop) x ≡ x
   unfolding act
   act-run-refused budget stop x h =
-      ap (λ (c : RunCall). record { window = x .window; slots = c .s; memory = c .m; journal = c .j; mark = c .a .mark }) (run-refused (x .window) (x .slots) (x .memory) budget (x .journal) (x .mark) w stop h)
+      ap (λ (c : RunCall). record { board = x .board; slots = c .s; memory = c .m; journal = c .j; mark = c .a .mark }) (run-refused (x .board) (x .slots) (x .memory) budget (x .journal) (x .mark) w stop h)
 
   -- ---- an accepted step
   -- the room that a step finds or makes, and the machine there; where all records are kept it is the machine as it is
@@ -69,24 +69,24 @@ module _ (w : Manner) where
   room-at x = room-for w (length (x .memory)) (x .journal) (x .mark)
 
   abbrev pub seen-at : Machine → Seen
-  seen-at x = record { window = x .window; slots = x .slots; memory = x .memory; mark = room-at x .a .mark }
+  seen-at x = record { board = x .board; slots = x .slots; memory = x .memory; mark = room-at x .a .mark }
 
   pub act-step : (r : Request) (x : Machine) → stepping w (r .level) (r .vector) x .a .number ≡ 0
       → act w (step-of (r .level) (r .vector)) x ≡ machine-at (one-more r (seen-at x)) (written (room-at x .j) (room-at x .a .mark) (record-after r (seen-at x)))
   unfolding act step-with-room step-taken one-more record-after
   act-step r x e =
-      ap (λ (c : StepCall). record { window = x .window; slots = c .s; memory = c .m; journal = c .j; mark = c .a .mark }) (step-accepted w (x .window) (x .slots) (x .memory) (r .level) (x .journal) (x .mark) (r .vector) e)
+      ap (λ (c : StepCall). record { board = x .board; slots = c .s; memory = c .m; journal = c .j; mark = c .a .mark }) (step-accepted w (x .board) (x .slots) (x .memory) (r .level) (x .journal) (x .mark) (r .vector) e)
 
-  pub step-number-zero : (level vector : ℕ) (x : Machine) → stepping w level vector x .a .number ≡ 0 → step-number w (x .window) (x .slots) (x .memory) level (x .journal) (x .mark) ≡ 0
-  step-number-zero level vector x e = cc (step-call-number w (x .window) (x .slots) (x .memory) level (x .journal) (x .mark) vector)
+  pub step-number-zero : (level vector : ℕ) (x : Machine) → stepping w level vector x .a .number ≡ 0 → step-number w (x .board) (x .slots) (x .memory) level (x .journal) (x .mark) ≡ 0
+  step-number-zero level vector x e = cc (step-call-number w (x .board) (x .slots) (x .memory) level (x .journal) (x .mark) vector)
 
   pub step-valid : (level vector : ℕ) (x : Machine) → Lent (x .slots) (x .memory) → stepping w level vector x .a .number ≡ 0 → Valid (x .slots) (x .memory)
   step-valid level vector x l e =
-      let i = step-inv w (x .window) (x .slots) (x .memory) level (x .journal) (x .mark) (step-number-zero level vector x e) in
+      let i = step-inv w (x .board) (x .slots) (x .memory) level (x .journal) (x .mark) (step-number-zero level vector x e) in
       valid-when-accepted (x .slots) (x .memory) l (i .0) (i .1)
 
-  pub step-window : (level vector : ℕ) (x : Machine) → stepping w level vector x .a .number ≡ 0 → window-fits (x .window) (x .memory) ≡ true
-  step-window level vector x e = step-inv w (x .window) (x .slots) (x .memory) level (x .journal) (x .mark) (step-number-zero level vector x e) .7
+  pub step-window : (level vector : ℕ) (x : Machine) → stepping w level vector x .a .number ≡ 0 → window-fits (x .board) (x .memory) ≡ true
+  step-window level vector x e = step-inv w (x .board) (x .slots) (x .memory) level (x .journal) (x .mark) (step-number-zero level vector x e) .7
 
   module _ (r : Request) (x : Machine) (l : Lent (x .slots) (x .memory)) (jl : JournalLent w (x .journal)) (e : stepping w (r .level) (r .vector) x .a .number ≡ 0) where
     valid-here : Valid (x .slots) (x .memory)
@@ -97,17 +97,17 @@ module _ (w : Manner) where
 
     pub room-same : length (room-at x .j) ≡ length (x .journal)
     room-same =
-        let i = step-inv w (x .window) (x .slots) (x .memory) (r .level) (x .journal) (x .mark) (step-number-zero (r .level) (r .vector) x e) in
+        let i = step-inv w (x .board) (x .slots) (x .memory) (r .level) (x .journal) (x .mark) (step-number-zero (r .level) (r .vector) x e) in
         room-length (length (x .memory)) (x .journal) (x .mark) small-here (i .3) w jl (i .4) (i .6)
 
     pub step-room : room-at x .a .mark + length (record-after r (seen-at x)) ≤ length (room-at x .j)
     step-room =
-        let i = step-inv w (x .window) (x .slots) (x .memory) (r .level) (x .journal) (x .mark) (step-number-zero (r .level) (r .vector) x e) in
+        let i = step-inv w (x .board) (x .slots) (x .memory) (r .level) (x .journal) (x .mark) (step-number-zero (r .level) (r .vector) x e) in
         omega (arith, room-inside (length (x .memory)) (x .journal) (x .mark) small-here (i .3) w jl (i .4) (i .6), room-same, record-after-length r (seen-at x) valid-here)
 
     pub journal-lent-after : JournalLent w (act w (step-of (r .level) (r .vector)) x .journal)
     journal-lent-after =
-        let i = step-inv w (x .window) (x .slots) (x .memory) (r .level) (x .journal) (x .mark) (step-number-zero (r .level) (r .vector) x e) in
+        let i = step-inv w (x .board) (x .slots) (x .memory) (r .level) (x .journal) (x .mark) (step-number-zero (r .level) (r .vector) x e) in
         let k = room-lent (length (x .memory)) (x .journal) (x .mark) small-here (i .3) w jl (i .4) (i .6) in
         rw (act-step r x e) (lent-written r (seen-at x) valid-here w (room-at x .j) (room-at x .a .mark) k)
 
@@ -128,4 +128,4 @@ record-some ss bs =
 pub record-after-some : (r : Request) (a : Seen) → 0 < length (record-after r a)
 unfolding record-after
 record-after-some r a =
-    record-some (diffs 0 (a .slots) (one-step (a .window) (a .slots) (a .memory) (r .level) (r .vector) .s)) (diffs 0 (a .memory) (one-step (a .window) (a .slots) (a .memory) (r .level) (r .vector) .m))
+    record-some (diffs 0 (a .slots) (one-step (a .board) (a .slots) (a .memory) (r .level) (r .vector) .s)) (diffs 0 (a .memory) (one-step (a .board) (a .slots) (a .memory) (r .level) (r .vector) .m))

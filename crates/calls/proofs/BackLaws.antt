@@ -33,15 +33,15 @@ unfolding one-more
 mark-after r a = refl
 
 -- ---- the undo of one step whose record ends the journal
-module _ (r : Request) (a : Seen) (v : Valid (a .slots) (a .memory)) (o : window-fits (a .window) (a .memory) ≡ true) (j : List ℕ)
+module _ (r : Request) (a : Seen) (v : Valid (a .slots) (a .memory)) (o : window-fits (a .board) (a .memory) ≡ true) (j : List ℕ)
     (room : one-more r a .mark ≤ length j) (last : back j (one-more r a .mark) ≡ reverse (record-after r a) ++ back j (a .mark)) where
   undone-to : undo-of (one-more r a .slots) (one-more r a .memory) j (one-more r a .mark)
       ≡ record { slots = a .slots; memory = a .memory; answer = Done (a .mark) }
   unfolding one-more record-after
   undone-to =
-      let t = one-step (a .window) (a .slots) (a .memory) (r .level) (r .vector) in
+      let t = one-step (a .board) (a .slots) (a .memory) (r .level) (r .vector) in
       let b = record-after r a in
-      let k = kept-by (a .window) (a .slots) (a .memory) (r .level) (r .vector) v in
+      let k = kept-by (a .board) (a .slots) (a .memory) (r .level) (r .vector) v in
       let small = small-enough (a .slots) (a .memory) v in
       undo-by-back (t .s) (t .m) j (written j (a .mark) b) (a .mark + length b) room (rw (length-written j (a .mark) b room) room)
       (last ∙ sym (back-written j (a .mark) b room))
@@ -54,8 +54,8 @@ module _ (r : Request) (a : Seen) (v : Valid (a .slots) (a .memory)) (o : window
       let w = valid-after r a v in
       let fits = state-fits-when (one-more r a .slots) (one-more r a .memory) w in
       let some : one-more r a .mark ≡ 0 → ⊥ = λ e. omega (arith, mark-after r a, record-after-some r a) in
-      undo-accepted (one-more r a .window) (one-more r a .slots) (one-more r a .memory) j (one-more r a .mark) (a .mark) (a .slots) (a .memory)
-      (undo-number-when (one-more r a .window) (one-more r a .slots) (one-more r a .memory) j (one-more r a .mark) (w .fits) fits (window-after r a v o) room some)
+      undo-accepted (one-more r a .board) (one-more r a .slots) (one-more r a .memory) j (one-more r a .mark) (a .mark) (a .slots) (a .memory)
+      (undo-number-when (one-more r a .board) (one-more r a .slots) (one-more r a .memory) j (one-more r a .mark) (w .fits) fits (window-after r a v o) room some)
       undone-to
 
 -- ---- any call at all
@@ -119,7 +119,7 @@ module _ (w : Manner) (P : Call → Machine → Type 0) (At : Machine → List R
       go false q =
           let refused = eqb-false (running-on w budget stop x .a .number) 0 q in
           let none-taken : running-on w budget stop x .a .steps ≡ 0 =
-          ap (λ (c : RunCall). c .a .steps) (run-refused (x .window) (x .slots) (x .memory) budget (x .journal) (x .mark) w stop refused) in
+          ap (λ (c : RunCall). c .a .steps) (run-refused (x .board) (x .slots) (x .memory) budget (x .journal) (x .mark) w stop refused) in
           rw (none-taken, act-run-refused w budget stop x refused) (a, omega arith)
   call-at undo-once x rs n u a e h p = go (eqb (undoing x .a .number) 0) refl rs a e
     where

@@ -13,7 +13,7 @@ use native.Mathlib.Omega.{arith}
 use lib.ListN.{length, take, drop, getD, set, length-append}
 use lib.Seq.{length-take-le, take-append-le, take-take, take-append-seam, drop-at, drop-drop, getD-set-other}
 use lib.Dec.{eqb}
-use Rattle.bus.specs.declared.Window.{Window}
+use Rattle.bus.specs.Bus.{Board}
 use Rattle.numbers.specs.Number.{written}
 use Rattle.numbers.proofs.WrittenLaws.{length-written}
 use Rattle.record.specs.Limits.{byte-limit}
@@ -139,7 +139,7 @@ module _ (w : Manner) (r : Request) (x : Machine) (lent : Lent (x .slots) (x .me
 
   kept-now : Kept (x .slots) (x .memory) (z .slots) (z .memory)
   unfolding one-more
-  kept-now = rw (act-step w r x ok) (kept-by (x .window) (x .slots) (x .memory) (r .level) (r .vector) (step-valid w (r .level) (r .vector) x lent ok))
+  kept-now = rw (act-step w r x ok) (kept-by (x .board) (x .slots) (x .memory) (r .level) (r .vector) (step-valid w (r .level) (r .vector) x lent ok))
 
   pub step-memory : (length (z .memory) ≡ length (x .memory))
       × (length (diffs 0 (x .memory) (z .memory)) ≤ byte-limit)
@@ -148,10 +148,10 @@ module _ (w : Manner) (r : Request) (x : Machine) (lent : Lent (x .slots) (x .me
       (kept-now .memory, kept-now .few, λ i h. same-outside i 0 (x .memory) (z .memory) (sym (kept-now .memory)) (rw zero-add h))
 
 -- ---- an accepted undo
-pub undo-memory : (win : Window) (s m j : List ℕ) (mark : ℕ) (ss bs : List Change) (p : List ℕ) → well-formed s m j mark ≡ found ss bs p → (i : ℕ) → NotAmong i bs → getD (undo-call win s m j mark .m) i 0 ≡ getD m i 0
+pub undo-memory : (board : Board) (s m j : List ℕ) (mark : ℕ) (ss bs : List Change) (p : List ℕ) → well-formed s m j mark ≡ found ss bs p → (i : ℕ) → NotAmong i bs → getD (undo-call board s m j mark .m) i 0 ≡ getD m i 0
 unfolding undo-call
-undo-memory win s m j mark ss bs p e i h = go (eqb (undo-number win s m j mark) 0) refl
+undo-memory board s m j mark ss bs p e i h = go (eqb (undo-number board s m j mark) 0) refl
   where
-    go : (b : Bool) → eqb (undo-number win s m j mark) 0 ≡ b → getD (undo-call win s m j mark .m) i 0 ≡ getD m i 0
+    go : (b : Bool) → eqb (undo-number board s m j mark) 0 ≡ b → getD (undo-call board s m j mark .m) i 0 ≡ getD m i 0
     go true q = rw (q, undo-when-found s m j mark ss bs p e) (restored-outside i bs m h)
     go false q = rw q

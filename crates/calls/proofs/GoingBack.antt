@@ -37,7 +37,7 @@ module _ (x₀ : Machine) (lent : Lent (x₀ .slots) (x₀ .memory)) where
   Holds j [] = Unit {0}
   Holds j (r ∷ rs) =
       Valid (alone rs .slots) (alone rs .memory)
-      × (window-fits (alone rs .window) (alone rs .memory) ≡ true)
+      × (window-fits (alone rs .board) (alone rs .memory) ≡ true)
       × (one-more r (alone rs) .mark ≤ length j)
       × (back j (one-more r (alone rs) .mark) ≡ reverse (record-after r (alone rs)) ++ back j (alone rs .mark))
       × Holds j rs
@@ -114,7 +114,7 @@ module _ (x₀ : Machine) (lent : Lent (x₀ .slots) (x₀ .memory)) where
   undo-at x r rs a =
       record {
         journal = x .journal;
-        is = λ i. let c = undoing-at x r rs a i in record { window = a .is i .window; slots = c .s; memory = c .m; journal = x .journal; mark = c .a .mark };
+        is = λ i. let c = undoing-at x r rs a i in record { board = a .is i .board; slots = c .s; memory = c .m; journal = x .journal; mark = c .a .mark };
         holds = subst (λ (j : List ℕ). Holds j rs) (sym (ap (λ (y : Machine). y .journal) (a .is))) (a .holds .4);
       }
 

@@ -77,7 +77,7 @@ module _ (x₀ : Machine) (lent : Lent (x₀ .slots) (x₀ .memory)) (octets : V
         record {
           journal = a .journal;
           mark = length (under x₀ (a .journal) (a .mark) r rs (a .holds) k some);
-          is = λ i. let c = undoing-at k some i in record { window = a .is i .window; slots = c .s; memory = c .m; journal = a .is i .journal; mark = c .a .mark };
+          is = λ i. let c = undoing-at k some i in record { board = a .is i .board; slots = c .s; memory = c .m; journal = a .is i .journal; mark = c .a .mark };
           holds = undo-kept x₀ (a .journal) (a .mark) r rs (a .holds) k some;
         }
 
@@ -130,10 +130,10 @@ module _ (x₀ : Machine) (lent : Lent (x₀ .slots) (x₀ .memory)) (octets : V
       let below : x .mark ≤ length (x .journal) = rw (w .at .is) (w .at .holds .below) in
       let octets-below = bytes-of-back (x .journal) (x .mark) (bytes-when-valid (x .journal) (lent-at x rs (w .at) .1)) below in
       let told =
-      ap (λ (o : StepCall). o .a .dropped) (step-accepted Dropping (x .window) (x .slots) (x .memory) (r .level) (x .journal) (x .mark) (r .vector) ok) in
+      ap (λ (o : StepCall). o .a .dropped) (step-accepted Dropping (x .board) (x .slots) (x .memory) (r .level) (x .journal) (x .mark) (r .vector) ok) in
       let stays = mark-when-none-dropped (length (x .memory)) (x .journal) (x .mark) below octets-below (sym told ∙ none-gone) in
       let same : record-after r (seen-at Dropping x) ≡ record-after r (alone rs) =
-      λ i. record-after r (record { window = w .at .is i .window; slots = w .at .is i .slots; memory = w .at .is i .memory; mark = c .a .mark }) in
+      λ i. record-after r (record { board = w .at .is i .board; slots = w .at .is i .slots; memory = w .at .is i .memory; mark = c .a .mark }) in
       record {
         at = step-at x rs (w .at) r ok;
         marks =
@@ -160,7 +160,7 @@ module _ (x₀ : Machine) (lent : Lent (x₀ .slots) (x₀ .memory)) (octets : V
       let same-mark = ap (λ (y : Machine). y .mark) (a .is) in
       let joint = length-append (h .rest) (records-alone (h .kept) rs (seen x₀)) in
       record {
-        window = ap (λ (y : Machine). y .window) (a .is);
+        board = ap (λ (y : Machine). y .board) (a .is);
         slots = ap (λ (y : Machine). y .slots) (a .is);
         memory = ap (λ (y : Machine). y .memory) (a .is);
         kept = h .kept;
@@ -177,7 +177,7 @@ module _ (x₀ : Machine) (lent : Lent (x₀ .slots) (x₀ .memory)) (octets : V
       record {
         journal = x .journal;
         mark = x .mark;
-        is = λ i. record { window = k .window i; slots = k .slots i; memory = k .memory i; journal = x .journal; mark = x .mark };
+        is = λ i. record { board = k .board i; slots = k .slots i; memory = k .memory i; journal = x .journal; mark = x .mark };
         holds = record {
           valid = a .holds .valid;
           kept = k .kept;
@@ -205,7 +205,7 @@ module _ (x₀ : Machine) (lent : Lent (x₀ .slots) (x₀ .memory)) (octets : V
     going-back-none-dropped none-gone =
         let w = history-at Dropping DropsNone Whole (λ x rs w. lent-at x rs (w .at)) step-whole run-drops-none undo-whole
         cs x₀ [] 0 0 (record { at = at-start; marks = refl }) (omega arith) h none-gone in
-        λ i. record { window = w .at .is i .window; slots = w .at .is i .slots; memory = w .at .is i .memory; mark = w .marks i }
+        λ i. record { board = w .at .is i .board; slots = w .at .is i .slots; memory = w .at .is i .memory; mark = w .marks i }
 
     module _ (r : Request) (rs : List Request) (stands : standing (machine-calls Dropping) cs x₀ [] ≡ r ∷ rs)
         (k : KeptRecords x₀ (after (machine-calls Dropping) cs x₀) (r ∷ rs)) where
@@ -246,7 +246,7 @@ module _ (x₀ x : Machine) (rs : List Request) where
       let joint = ap (λ (n : ℕ). length (records-alone n rs (seen x₀))) all in
       let before = ap length whole ∙ length-take-le (x₀ .mark) (x₀ .journal) inside in
       let same : x .mark ≡ taken-alone rs (seen x₀) .mark = omega (arith, k .mark-is, before, joint, records-length rs (seen x₀)) in
-      λ i. record { window = k .window i; slots = k .slots i; memory = k .memory i; mark = same i }
+      λ i. record { board = k .board i; slots = k .slots i; memory = k .memory i; mark = same i }
 
   -- how many are kept is told by the mark: fewer would be fewer bytes
   kept-low : (k l : KeptRecords x₀ x rs) → k .kept ≤ l .kept
@@ -275,10 +275,10 @@ module _ (x₀ x : Machine) (rs : List Request) where
 module _ (w : Manner) (x : Machine) (past : length (x .journal) < x .mark) where
   act-past-end : (c : Call) → act w c x ≡ x
   act-past-end (step-of level vector) =
-      act-step-refused w level vector x (λ e. step-verdict w (x .window) (x .slots) (x .memory) level (x .journal) (x .mark) vector .done .0 e .1 .1 .1 .1 .0 past)
+      act-step-refused w level vector x (λ e. step-verdict w (x .board) (x .slots) (x .memory) level (x .journal) (x .mark) vector .done .0 e .1 .1 .1 .1 .0 past)
   act-past-end (run-of budget stop) =
-      act-run-refused w budget stop x (λ e. run-verdict (x .window) (x .slots) (x .memory) budget (x .journal) (x .mark) w stop .done .0 e .1 .1 .1 .1 .0 past)
-  act-past-end undo-once = act-undo-refused w x (λ e. undo-verdict (x .window) (x .slots) (x .memory) (x .journal) (x .mark) .done .0 e .1 .1 .1 .0 past)
+      act-run-refused w budget stop x (λ e. run-verdict (x .board) (x .slots) (x .memory) budget (x .journal) (x .mark) w stop .done .0 e .1 .1 .1 .1 .0 past)
+  act-past-end undo-once = act-undo-refused w x (λ e. undo-verdict (x .board) (x .slots) (x .memory) (x .journal) (x .mark) .done .0 e .1 .1 .1 .0 past)
 
   pub refused-past-end : (cs : List Call) → after (machine-calls w) cs x ≡ x
   refused-past-end [] = refl

@@ -37,7 +37,7 @@ use Rattle.calls.proofs.KeptLaws.{older, left-over-drop}
 
 -- a machine with the slots and the memory that are seen, and another mark
 abbrev pub placed : Seen → List ℕ → ℕ → Machine
-placed a j mark = record { window = a .window; slots = a .slots; memory = a .memory; journal = j; mark = mark }
+placed a j mark = record { board = a .board; slots = a .slots; memory = a .memory; journal = j; mark = mark }
 
 empty-part : (p q : List ℕ) → p ++ q ≡ [] → q ≡ []
 empty-part [] q e = e
@@ -94,7 +94,7 @@ module _ (x₀ : Machine) where
         ≡ record { s = alone rs .slots; m = alone rs .memory; a = record { number = 0; mark = length under } }
     unfolding one-more record-after
     undoing-kept =
-        let b : Seen = record { window = alone rs .window; slots = alone rs .slots; memory = alone rs .memory; mark = length under } in
+        let b : Seen = record { board = alone rs .board; slots = alone rs .slots; memory = alone rs .memory; mark = length under } in
         let ends : back j (length under + length last) ≡ reverse last ++ back j (length under) =
         ap (back j) tall ∙ back-as-reverse j mark ∙ ap reverse stacked ∙ reverse-append under last
         ∙ ap (λ (l : List ℕ). reverse last ++ l) (ap reverse (sym lower) ∙ sym (back-as-reverse j (length under))) in
@@ -124,10 +124,10 @@ module _ (x₀ : Machine) where
       let empty : length (records (h .kept) (r ∷ rs)) ≡ 0 = ap (λ (n : ℕ). length (records n (r ∷ rs))) z in
       let at-0 : mark ≡ 0 =
       omega (arith, ap length (h .bytes), length-append (h .rest) (records (h .kept) (r ∷ rs)), length-take-le mark j (h .below)) in
-      undo-verdict (a .window) (a .slots) (a .memory) j mark .exactly 7 .1
+      undo-verdict (a .board) (a .slots) (a .memory) j mark .exactly 7 .1
       (later (no-bad-memory (a .memory) (v .fits))
       (later (no-bad-state (a .slots) (state-fits-when (a .slots) (a .memory) v))
-      (later (no-bad-window (a .window) (a .memory) (window-after r (alone rs) (h .valid .0) (h .valid .1)))
+      (later (no-bad-window (a .board) (a .memory) (window-after r (alone rs) (h .valid .0) (h .valid .1)))
       (later (λ q. omega (arith, h .below)) (this at-0 refl)))))
 
   -- ---- an accepted step
@@ -236,7 +236,7 @@ module _ (x₀ : Machine) where
           let c = room-at Dropping here in
           let b = seen-at Dropping here in
           let v = step-valid Dropping (r .level) (r .vector) here lent-here ok in
-          let i = step-inv Dropping (here .window) (here .slots) (here .memory) (r .level) j mark (step-number-zero Dropping (r .level) (r .vector) here ok) in
+          let i = step-inv Dropping (here .board) (here .slots) (here .memory) (r .level) j mark (step-number-zero Dropping (r .level) (r .vector) here ok) in
           let fits : length (here .memory) ≤ 2 ^ 32 = omega (arith, small-enough (here .slots) (here .memory) v) in
           let number = room-number (length (here .memory)) j mark fits (h .below) Dropping (h .lent-journal) (i .4) (i .6) in
           let is = act-step Dropping r here ok in

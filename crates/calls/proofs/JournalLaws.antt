@@ -93,7 +93,7 @@ InByte k v = v < 256
 
 abbrev pub row-after : Request → Seen → Row
 row-after r a =
-    let t = one-step (a .window) (a .slots) (a .memory) (r .level) (r .vector) in
+    let t = one-step (a .board) (a .slots) (a .memory) (r .level) (r .vector) in
     record { slots = diffs 0 (a .slots) (t .s); bytes = diffs 0 (a .memory) (t .m) }
 
 pub row-after-bytes : (r : Request) (a : Seen) → record-after r a ≡ row-bytes (row-after r a)
@@ -103,8 +103,8 @@ row-after-bytes r a = refl
 module _ (r : Request) (a : Seen) (v : Valid (a .slots) (a .memory)) where
   pub row-after-good : Good (length (a .memory)) (row-after r a)
   row-after-good =
-      let t = one-step (a .window) (a .slots) (a .memory) (r .level) (r .vector) in
-      let k = kept-by (a .window) (a .slots) (a .memory) (r .level) (r .vector) v in
+      let t = one-step (a .board) (a .slots) (a .memory) (r .level) (r .vector) in
+      let k = kept-by (a .board) (a .slots) (a .memory) (r .level) (r .vector) v in
       record {
         few-slots = omega (arith, length-of-diffs 0 (a .slots) (t .s), v .slots);
         few-bytes = k .few;

@@ -32,7 +32,7 @@ use Rattle.calls.proofs.BackLaws.{mark-after}
 abbrev pub AllValid : List Request → Seen → Type 0
 AllValid [] a = Unit {0}
 AllValid (r ∷ rs) a =
-    Valid (taken-alone rs a .slots) (taken-alone rs a .memory) × (window-fits (taken-alone rs a .window) (taken-alone rs a .memory) ≡ true) × AllValid rs a
+    Valid (taken-alone rs a .slots) (taken-alone rs a .memory) × (window-fits (taken-alone rs a .board) (taken-alone rs a .memory) ≡ true) × AllValid rs a
 
 pub lent-alone : (rs : List Request) (a : Seen) → Lent (a .slots) (a .memory) → AllValid rs a
     → Lent (taken-alone rs a .slots) (taken-alone rs a .memory)
@@ -44,7 +44,7 @@ unfolding one-more
 memory-alone [] a h = refl
 memory-alone (r ∷ rs) a h =
     let b = taken-alone rs a in
-    kept-by (b .window) (b .slots) (b .memory) (r .level) (r .vector) (h .0) .memory ∙ memory-alone rs a (h .2)
+    kept-by (b .board) (b .slots) (b .memory) (r .level) (r .vector) (h .0) .memory ∙ memory-alone rs a (h .2)
 
 -- ---- their records as rows
 abbrev pub rows-alone : ℕ → List Request → Seen → List Row

@@ -18,7 +18,7 @@ use lib.Dec.{ltb, leb, eqb}
 use borrow.Author.Tests.{ltb-true, ltb-false, leb-false, eqb-true, eqb-false, lt-ltb, le-ltb, eq-eqb, ne-eqb, not-true, not-false}
 use Rattle.bits.specs.Bits.{pick}
 use Rattle.bits.proofs.BitsLaws.{pick-cases, and-left, and-right}
-use Rattle.bus.specs.declared.Window.{Window}
+use Rattle.bus.specs.Bus.{Board}
 use Rattle.bank.specs.Bank.{pc-of, sr-of, mode-of}
 use Rattle.record.specs.Limits.{longest-record, valid-status}
 use Rattle.undo.specs.declared.Answer.{Answer}
@@ -116,17 +116,17 @@ pub no-bad-state : (s : List ℕ) → state-fits s ≡ true → BadState s → �
 no-bad-state s e (stray-bit h) = let f = state-inv s e .0 in absurd (let z : _≡_ {A = ℕ} 0 1 = cc in omega arith)
 no-bad-state s e (no-mode h) = let f = state-inv s e .1 in omega arith
 
-pub bad-window-when : (win : Window) (m : List ℕ) → window-fits win m ≡ false → BadWindow win m
-bad-window-when win m e = go (leb (win .lo) (win .hi)) refl (leb (win .hi) (length m)) refl
+pub bad-window-when : (board : Board) (m : List ℕ) → window-fits board m ≡ false → BadWindow board m
+bad-window-when board m e = go (leb (board .lo) (board .hi)) refl (leb (board .hi) (length m)) refl
   where
-    go : (a : Bool) → leb (win .lo) (win .hi) ≡ a → (b : Bool) → leb (win .hi) (length m) ≡ b → BadWindow win m
-    go false p b q = turned-round (leb-false (win .lo) (win .hi) p)
-    go true p false q = past-memory (leb-false (win .hi) (length m) q)
+    go : (a : Bool) → leb (board .lo) (board .hi) ≡ a → (b : Bool) → leb (board .hi) (length m) ≡ b → BadWindow board m
+    go false p b q = turned-round (leb-false (board .lo) (board .hi) p)
+    go true p false q = past-memory (leb-false (board .hi) (length m) q)
     go true p true q = let no-way : true ≡ false = rw (p, q) at e in absurd (let z : _≡_ {A = ℕ} 0 1 = cc in omega arith)
 
-pub no-bad-window : (win : Window) (m : List ℕ) → window-fits win m ≡ true → BadWindow win m → ⊥
-no-bad-window win m e (turned-round h) = let f = window-inv win m e .0 in omega arith
-no-bad-window win m e (past-memory h) = let f = window-inv win m e .1 in omega arith
+pub no-bad-window : (board : Board) (m : List ℕ) → window-fits board m ≡ true → BadWindow board m → ⊥
+no-bad-window board m e (turned-round h) = let f = window-inv board m e .0 in omega arith
+no-bad-window board m e (past-memory h) = let f = window-inv board m e .1 in omega arith
 
 module _ {k : ℕ} {ls : List Line} (rest : Given ls k) where
   memory-given : (m : List ℕ) → Given (memory-line m ∷ ls) (pick (not (memory-fits m)) 1 k)
@@ -135,10 +135,10 @@ module _ {k : ℕ} {ls : List Line} (rest : Given ls k) where
   state-given : (s : List ℕ) → Given (state-line s ∷ ls) (pick (not (state-fits s)) 2 k)
   state-given s = given-pick (not (state-fits s)) 2 (BadState s) (λ e. bad-state-when s (not-true (state-fits s) e)) (λ e. no-bad-state s (not-false (state-fits s) e)) rest
 
-  window-given : (win : Window) (m : List ℕ) → Given (window-line win m ∷ ls) (pick (not (window-fits win m)) 10 k)
-  window-given win m =
-      given-pick (not (window-fits win m)) 10 (BadWindow win m) (λ e. bad-window-when win m (not-true (window-fits win m) e))
-      (λ e. no-bad-window win m (not-false (window-fits win m) e)) rest
+  window-given : (board : Board) (m : List ℕ) → Given (window-line board m ∷ ls) (pick (not (window-fits board m)) 10 k)
+  window-given board m =
+      given-pick (not (window-fits board m)) 10 (BadWindow board m) (λ e. bad-window-when board m (not-true (window-fits board m) e))
+      (λ e. no-bad-window board m (not-false (window-fits board m) e)) rest
 
   pub below-given : (n a b : ℕ) → Given (record { number = n; applies = a < b } ∷ ls) (pick (ltb a b) n k)
   below-given n a b = given-pick (ltb a b) n (a < b) (ltb-true a b) (λ e h. let g = ltb-false a b e in omega arith) rest
@@ -170,33 +170,33 @@ when-stopped f (passed p) last h = absurd (h (p 0))
 when-stopped f (stopped n z p) last h = p last ∙ sym (p 0)
 
 -- ---- the tests that come first: 1, 2 and 10
-module _ (win : Window) (s m : List ℕ) where
-  pub first-given : {k : ℕ} {ls : List Line} → Given ls k → Given (first-lines win s m ls) (first-tests win s m k)
+module _ (board : Board) (s m : List ℕ) where
+  pub first-given : {k : ℕ} {ls : List Line} → Given ls k → Given (first-lines board s m ls) (first-tests board s m k)
   unfolding first-tests
-  first-given rest = memory-given (state-given (window-given rest win m) s) m
+  first-given rest = memory-given (state-given (window-given rest board m) s) m
 
-  first-settled : Settled (first-tests win s m)
+  first-settled : Settled (first-tests board s m)
   unfolding first-tests
   first-settled =
-      settled-pick (λ last. pick (not (state-fits s)) 2 (pick (not (window-fits win m)) 10 last)) (not (memory-fits m)) 0
-      (settled-pick (λ last. pick (not (window-fits win m)) 10 last) (not (state-fits s)) 1
-      (settled-pick (λ last. last) (not (window-fits win m)) 9 (passed (λ last. refl))))
+      settled-pick (λ last. pick (not (state-fits s)) 2 (pick (not (window-fits board m)) 10 last)) (not (memory-fits m)) 0
+      (settled-pick (λ last. pick (not (window-fits board m)) 10 last) (not (state-fits s)) 1
+      (settled-pick (λ last. last) (not (window-fits board m)) 9 (passed (λ last. refl))))
 
-  pub first-passed : (last : ℕ) → first-tests win s m 0 ≡ 0 → first-tests win s m last ≡ last
-  first-passed last e = when-passed (first-tests win s m) first-settled last e
+  pub first-passed : (last : ℕ) → first-tests board s m 0 ≡ 0 → first-tests board s m last ≡ last
+  first-passed last e = when-passed (first-tests board s m) first-settled last e
 
-  pub first-stopped : (last : ℕ) → (first-tests win s m 0 ≡ 0 → ⊥) → first-tests win s m last ≡ first-tests win s m 0
-  first-stopped last h = when-stopped (first-tests win s m) first-settled last h
+  pub first-stopped : (last : ℕ) → (first-tests board s m 0 ≡ 0 → ⊥) → first-tests board s m last ≡ first-tests board s m 0
+  first-stopped last h = when-stopped (first-tests board s m) first-settled last h
 
-  pub first-inv : (last : ℕ) → first-tests win s m last ≡ 0 → (memory-fits m ≡ true) × (state-fits s ≡ true) × (window-fits win m ≡ true) × (last ≡ 0)
+  pub first-inv : (last : ℕ) → first-tests board s m last ≡ 0 → (memory-fits m ≡ true) × (state-fits s ≡ true) × (window-fits board m ≡ true) × (last ≡ 0)
   unfolding first-tests
   first-inv last e =
       let e₁ = pick-zero (not (memory-fits m)) 0 _ e in
       let e₂ = pick-zero (not (state-fits s)) 1 _ (e₁ .1) in
-      let e₃ = pick-zero (not (window-fits win m)) 9 _ (e₂ .1) in
-      (not-false (memory-fits m) (e₁ .0), not-false (state-fits s) (e₂ .0), not-false (window-fits win m) (e₃ .0), e₃ .1)
+      let e₃ = pick-zero (not (window-fits board m)) 9 _ (e₂ .1) in
+      (not-false (memory-fits m) (e₁ .0), not-false (state-fits s) (e₂ .0), not-false (window-fits board m) (e₃ .0), e₃ .1)
 
-  pub first-when : (last : ℕ) → memory-fits m ≡ true → state-fits s ≡ true → window-fits win m ≡ true → first-tests win s m last ≡ last
+  pub first-when : (last : ℕ) → memory-fits m ≡ true → state-fits s ≡ true → window-fits board m ≡ true → first-tests board s m last ≡ last
   unfolding first-tests
   first-when last f g h = rw (f, g, h)
 
@@ -250,60 +250,60 @@ module _ {k : ℕ} {ls : List Line} (rest : Given ls k) (n : ℕ) where
   way-given Dropping len j mark = given-pick (torn-way Dropping len j mark) n (TornWay len j mark) (torn-way-when len j mark) (no-torn-way len j mark) rest
 
 -- ---- step
-module _ (w : Manner) (win : Window) (s m : List ℕ) (level : ℕ) (j : List ℕ) (mark : ℕ) where
-  step-given : Given (step-table w win s m level j mark) (step-number w win s m level j mark)
+module _ (w : Manner) (board : Board) (s m : List ℕ) (level : ℕ) (j : List ℕ) (mark : ℕ) where
+  step-given : Given (step-table w board s m level j mark) (step-number w board s m level j mark)
   unfolding step-number step-tests
   step-given =
       let last = room-given (equal-given (way-given zero-at-end 8 w (length m) j mark) 6 (mode-of s) 2) 5 w j mark in
-      first-given win s m (below-given (below-given last 4 (length j) mark) 3 7 level)
+      first-given board s m (below-given (below-given last 4 (length j) mark) 3 7 level)
 
   module _ (vector : ℕ) where
-    pub step-call-number : step-call w win s m level vector j mark .a .number ≡ step-number w win s m level j mark
+    pub step-call-number : step-call w board s m level vector j mark .a .number ≡ step-number w board s m level j mark
     unfolding step-call step-with-room step-taken
-    step-call-number = call-number (λ (c : StepCall). c .a .number) (step-number w win s m level j mark) _ _ refl refl
+    step-call-number = call-number (λ (c : StepCall). c .a .number) (step-number w board s m level j mark) _ _ refl refl
 
-    pub step-verdict : Verdict (step-table w win s m level j mark) (step-call w win s m level vector j mark .a .number)
-    step-verdict = verdict (step-table w win s m level j mark) (step-call w win s m level vector j mark .a .number) (step-positive w) (rw step-call-number step-given)
+    pub step-verdict : Verdict (step-table w board s m level j mark) (step-call w board s m level vector j mark .a .number)
+    step-verdict = verdict (step-table w board s m level j mark) (step-call w board s m level vector j mark .a .number) (step-positive w) (rw step-call-number step-given)
       where
-        step-positive : (w : Manner) → Positive (step-table w win s m level j mark)
+        step-positive : (w : Manner) → Positive (step-table w board s m level j mark)
         step-positive Dropping = omega arith
         step-positive Keeping = omega arith
 
-    pub step-accepted : step-call w win s m level vector j mark .a .number ≡ 0 → step-call w win s m level vector j mark ≡ step-with-room w win s m level vector j mark
+    pub step-accepted : step-call w board s m level vector j mark .a .number ≡ 0 → step-call w board s m level vector j mark ≡ step-with-room w board s m level vector j mark
     unfolding step-call
-    step-accepted e = rw (eq-eqb (step-number w win s m level j mark) 0 (sym step-call-number ∙ e))
+    step-accepted e = rw (eq-eqb (step-number w board s m level j mark) 0 (sym step-call-number ∙ e))
 
-    pub step-refused : (step-call w win s m level vector j mark .a .number ≡ 0 → ⊥)
-        → step-call w win s m level vector j mark ≡ record { s = s; m = m; j = j; a = record { number = step-call w win s m level vector j mark .a .number; event = 0; mark = mark; clocks = 0; moved = 0; dropped = 0 } }
+    pub step-refused : (step-call w board s m level vector j mark .a .number ≡ 0 → ⊥)
+        → step-call w board s m level vector j mark ≡ record { s = s; m = m; j = j; a = record { number = step-call w board s m level vector j mark .a .number; event = 0; mark = mark; clocks = 0; moved = 0; dropped = 0 } }
     unfolding step-call
-    step-refused h = rw (ne-eqb (step-number w win s m level j mark) 0 (λ e. h (step-call-number ∙ e)))
+    step-refused h = rw (ne-eqb (step-number w board s m level j mark) 0 (λ e. h (step-call-number ∙ e)))
 
   -- the tests after the first
   abbrev further : ℕ → ℕ
   further last = pick (ltb 7 level) 3 (pick (ltb (length j) mark) 4 (pick (no-room w j mark) 5 (pick (eqb (mode-of s) 2) 6 last)))
 
-  tested : Settled (step-tests w win s m level j mark)
+  tested : Settled (step-tests w board s m level j mark)
   unfolding step-tests
   tested =
-      settled-then (first-tests win s m) further (first-settled win s m)
+      settled-then (first-tests board s m) further (first-settled board s m)
       (settled-pick (λ last. pick (ltb (length j) mark) 4 (pick (no-room w j mark) 5 (pick (eqb (mode-of s) 2) 6 last))) (ltb 7 level) 2
       (settled-pick (λ last. pick (no-room w j mark) 5 (pick (eqb (mode-of s) 2) 6 last)) (ltb (length j) mark) 3
       (settled-pick (λ last. pick (eqb (mode-of s) 2) 6 last) (no-room w j mark) 4
       (settled-pick (λ last. last) (eqb (mode-of s) 2) 5 (passed (λ last. refl))))))
 
   -- the tests alone tell whether what is last is asked
-  pub tests-passed : (last : ℕ) → step-tests w win s m level j mark 0 ≡ 0 → step-tests w win s m level j mark last ≡ last
-  tests-passed last e = when-passed (step-tests w win s m level j mark) tested last e
+  pub tests-passed : (last : ℕ) → step-tests w board s m level j mark 0 ≡ 0 → step-tests w board s m level j mark last ≡ last
+  tests-passed last e = when-passed (step-tests w board s m level j mark) tested last e
 
-  pub tests-stopped : (last : ℕ) → (step-tests w win s m level j mark 0 ≡ 0 → ⊥) → step-tests w win s m level j mark last ≡ step-tests w win s m level j mark 0
-  tests-stopped last h = when-stopped (step-tests w win s m level j mark) tested last h
+  pub tests-stopped : (last : ℕ) → (step-tests w board s m level j mark 0 ≡ 0 → ⊥) → step-tests w board s m level j mark last ≡ step-tests w board s m level j mark 0
+  tests-stopped last h = when-stopped (step-tests w board s m level j mark) tested last h
 
   -- what a step that passes the tests may rest on
-  pub tests-inv : (last : ℕ) → step-tests w win s m level j mark last ≡ 0
-      → (memory-fits m ≡ true) × (state-fits s ≡ true) × (level ≤ 7) × (mark ≤ length j) × (no-room w j mark ≡ false) × (mode-of s ≡ 2 → ⊥) × (last ≡ 0) × (window-fits win m ≡ true)
+  pub tests-inv : (last : ℕ) → step-tests w board s m level j mark last ≡ 0
+      → (memory-fits m ≡ true) × (state-fits s ≡ true) × (level ≤ 7) × (mark ≤ length j) × (no-room w j mark ≡ false) × (mode-of s ≡ 2 → ⊥) × (last ≡ 0) × (window-fits board m ≡ true)
   unfolding step-tests
   tests-inv last e =
-      let i = first-inv win s m (further last) e in
+      let i = first-inv board s m (further last) e in
       let e₃ = pick-zero (ltb 7 level) 2 _ (i .3) in
       let e₄ = pick-zero (ltb (length j) mark) 3 _ (e₃ .1) in
       let e₅ = pick-zero (no-room w j mark) 4 _ (e₄ .1) in
@@ -319,66 +319,66 @@ module _ (w : Manner) (win : Window) (s m : List ℕ) (level : ℕ) (j : List �
       )
 
   -- what an accepted step may rest on
-  pub step-inv : step-number w win s m level j mark ≡ 0
-      → (memory-fits m ≡ true) × (state-fits s ≡ true) × (level ≤ 7) × (mark ≤ length j) × (no-room w j mark ≡ false) × (mode-of s ≡ 2 → ⊥) × (torn-way w (length m) j mark ≡ false) × (window-fits win m ≡ true)
+  pub step-inv : step-number w board s m level j mark ≡ 0
+      → (memory-fits m ≡ true) × (state-fits s ≡ true) × (level ≤ 7) × (mark ≤ length j) × (no-room w j mark ≡ false) × (mode-of s ≡ 2 → ⊥) × (torn-way w (length m) j mark ≡ false) × (window-fits board m ≡ true)
   unfolding step-number
   step-inv e =
       let i = tests-inv (pick (torn-way w (length m) j mark) 8 0) e in
       (i .0, i .1, i .2, i .3, i .4, i .5, pick-zero (torn-way w (length m) j mark) 7 0 (i .6) .0, i .7)
 
-  pub step-number-when : memory-fits m ≡ true → state-fits s ≡ true → window-fits win m ≡ true → level ≤ 7 → mark ≤ length j → no-room w j mark ≡ false → (mode-of s ≡ 2 → ⊥) → torn-way w (length m) j mark ≡ false
-      → step-number w win s m level j mark ≡ 0
+  pub step-number-when : memory-fits m ≡ true → state-fits s ≡ true → window-fits board m ≡ true → level ≤ 7 → mark ≤ length j → no-room w j mark ≡ false → (mode-of s ≡ 2 → ⊥) → torn-way w (length m) j mark ≡ false
+      → step-number w board s m level j mark ≡ 0
   unfolding step-number step-tests
   step-number-when f g o h i k r t =
-      first-when win s m (further (pick (torn-way w (length m) j mark) 8 0)) f g o
+      first-when board s m (further (pick (torn-way w (length m) j mark) 8 0)) f g o
       ∙ rw (le-ltb 7 level h, le-ltb (length j) mark i, k, ne-eqb (mode-of s) 2 r, t)
 
 -- ---- run
 abbrev NoNumber : RunCall → Type 0
 NoNumber c = c .a .number ≡ 0
 
-running-number : (w : Manner) (win : Window) (k n c v u stop : ℕ) (s m j : List ℕ) (mark : ℕ) → running w win k n c v u stop s m j mark .a .number ≡ 0
+running-number : (w : Manner) (board : Board) (k n c v u stop : ℕ) (s m j : List ℕ) (mark : ℕ) → running w board k n c v u stop s m j mark .a .number ≡ 0
 unfolding running
-running-number w win zero n c v u stop s m j mark = refl
-running-number w win (suc k) n c v u stop s m j mark =
+running-number w board zero n c v u stop s m j mark = refl
+running-number w board (suc k) n c v u stop s m j mark =
     pick-cases NoNumber (eqb (mode-of s) 2) refl
     (pick-cases NoNumber (eqb (mode-of s) 1) refl
     (pick-cases NoNumber (no-room w j mark) refl
     (pick-cases NoNumber (torn-way w (length m) j mark) refl
-    (pick-cases NoNumber (eqb (pc-of s) stop) refl (running-number w win k (n + 1) _ _ _ stop _ _ _ _)))))
+    (pick-cases NoNumber (eqb (pc-of s) stop) refl (running-number w board k (n + 1) _ _ _ stop _ _ _ _)))))
 
-module _ (win : Window) (s m : List ℕ) (budget : ℕ) (j : List ℕ) (mark : ℕ) where
-  run-given : Given (run-table win s m budget j mark) (run-number win s m budget j mark)
+module _ (board : Board) (s m : List ℕ) (budget : ℕ) (j : List ℕ) (mark : ℕ) where
+  run-given : Given (run-table board s m budget j mark) (run-number board s m budget j mark)
   unfolding run-number
-  run-given = first-given win s m (below-given (below-given zero-at-end 4 (length j) mark) 3 1000000 budget)
+  run-given = first-given board s m (below-given (below-given zero-at-end 4 (length j) mark) 3 1000000 budget)
 
-  pub run-inv : run-number win s m budget j mark ≡ 0 → (memory-fits m ≡ true) × (state-fits s ≡ true) × (budget ≤ 1000000) × (mark ≤ length j) × (window-fits win m ≡ true)
+  pub run-inv : run-number board s m budget j mark ≡ 0 → (memory-fits m ≡ true) × (state-fits s ≡ true) × (budget ≤ 1000000) × (mark ≤ length j) × (window-fits board m ≡ true)
   unfolding run-number
   run-inv e =
-      let i = first-inv win s m _ e in
+      let i = first-inv board s m _ e in
       let e₃ = pick-zero (ltb 1000000 budget) 2 _ (i .3) in
       let e₄ = pick-zero (ltb (length j) mark) 3 _ (e₃ .1) in
       (i .0, i .1, ltb-false 1000000 budget (e₃ .0), ltb-false (length j) mark (e₄ .0), i .2)
 
   module _ (w : Manner) (stop : ℕ) where
-    pub run-call-number : run-call w win s m budget stop j mark .a .number ≡ run-number win s m budget j mark
+    pub run-call-number : run-call w board s m budget stop j mark .a .number ≡ run-number board s m budget j mark
     unfolding run-call
-    run-call-number = call-number (λ (c : RunCall). c .a .number) (run-number win s m budget j mark) _ _ (running-number w win budget 0 0 0 0 stop s m j mark) refl
+    run-call-number = call-number (λ (c : RunCall). c .a .number) (run-number board s m budget j mark) _ _ (running-number w board budget 0 0 0 0 stop s m j mark) refl
 
-    pub run-verdict : Verdict (run-table win s m budget j mark) (run-call w win s m budget stop j mark .a .number)
-    run-verdict = verdict (run-table win s m budget j mark) (run-call w win s m budget stop j mark .a .number) (omega arith) (rw run-call-number run-given)
+    pub run-verdict : Verdict (run-table board s m budget j mark) (run-call w board s m budget stop j mark .a .number)
+    run-verdict = verdict (run-table board s m budget j mark) (run-call w board s m budget stop j mark .a .number) (omega arith) (rw run-call-number run-given)
 
-    pub run-accepted : run-call w win s m budget stop j mark .a .number ≡ 0 → run-call w win s m budget stop j mark ≡ running w win budget 0 0 0 0 stop s m j mark
+    pub run-accepted : run-call w board s m budget stop j mark .a .number ≡ 0 → run-call w board s m budget stop j mark ≡ running w board budget 0 0 0 0 stop s m j mark
     unfolding run-call
-    run-accepted e = rw (eq-eqb (run-number win s m budget j mark) 0 (sym run-call-number ∙ e))
+    run-accepted e = rw (eq-eqb (run-number board s m budget j mark) 0 (sym run-call-number ∙ e))
 
-    pub run-refused : (run-call w win s m budget stop j mark .a .number ≡ 0 → ⊥)
-        → run-call w win s m budget stop j mark ≡ record { s = s; m = m; j = j; a = record { number = run-call w win s m budget stop j mark .a .number; reason = 0; mark = mark; steps = 0; clocks = 0; moved = 0; dropped = 0 } }
+    pub run-refused : (run-call w board s m budget stop j mark .a .number ≡ 0 → ⊥)
+        → run-call w board s m budget stop j mark ≡ record { s = s; m = m; j = j; a = record { number = run-call w board s m budget stop j mark .a .number; reason = 0; mark = mark; steps = 0; clocks = 0; moved = 0; dropped = 0 } }
     unfolding run-call
-    run-refused h = rw (ne-eqb (run-number win s m budget j mark) 0 (λ e. h (run-call-number ∙ e)))
+    run-refused h = rw (ne-eqb (run-number board s m budget j mark) 0 (λ e. h (run-call-number ∙ e)))
 
 -- ---- undo
-module _ (win : Window) (s m j : List ℕ) (mark : ℕ) where
+module _ (board : Board) (s m j : List ℕ) (mark : ℕ) where
   record-given : Given (record { number = 8; applies = well-formed s m j mark ≡ none } ∷ []) (undo-answer mark (undo-of s m j mark .answer) .number)
   record-given = go (undo-of s m j mark .answer) refl
     where
@@ -388,44 +388,44 @@ module _ (win : Window) (s m j : List ℕ) (mark : ℕ) where
 
   -- the tests, and then the record
   abbrev undo-choice : ℕ → ℕ
-  undo-choice last = first-tests win s m (pick (ltb (length j) mark) 4 (pick (eqb mark 0) 7 last))
+  undo-choice last = first-tests board s m (pick (ltb (length j) mark) 4 (pick (eqb mark 0) 7 last))
 
-  undo-given : Given (undo-table win s m j mark) (undo-choice (undo-answer mark (undo-of s m j mark .answer) .number))
-  undo-given = first-given win s m (below-given (equal-given record-given 7 mark 0) 4 (length j) mark)
+  undo-given : Given (undo-table board s m j mark) (undo-choice (undo-answer mark (undo-of s m j mark .answer) .number))
+  undo-given = first-given board s m (below-given (equal-given record-given 7 mark 0) 4 (length j) mark)
 
   undo-settled : Settled undo-choice
   undo-settled =
-      settled-then (first-tests win s m) (λ last. pick (ltb (length j) mark) 4 (pick (eqb mark 0) 7 last)) (first-settled win s m)
+      settled-then (first-tests board s m) (λ last. pick (ltb (length j) mark) 4 (pick (eqb mark 0) 7 last)) (first-settled board s m)
       (settled-pick (λ last. pick (eqb mark 0) 7 last) (ltb (length j) mark) 3 (settled-pick (λ last. last) (eqb mark 0) 6 (passed (λ last. refl))))
 
-  undo-call-number : undo-call win s m j mark .a .number ≡ undo-choice (undo-answer mark (undo-of s m j mark .answer) .number)
+  undo-call-number : undo-call board s m j mark .a .number ≡ undo-choice (undo-answer mark (undo-of s m j mark .answer) .number)
   unfolding undo-call undo-number
   undo-call-number = go (eqb (undo-choice 0) 0) refl
     where
-      go : (b : Bool) → eqb (undo-choice 0) 0 ≡ b → undo-call win s m j mark .a .number ≡ undo-choice (undo-answer mark (undo-of s m j mark .answer) .number)
+      go : (b : Bool) → eqb (undo-choice 0) 0 ≡ b → undo-call board s m j mark .a .number ≡ undo-choice (undo-answer mark (undo-of s m j mark .answer) .number)
       go true e = rw e (sym (when-passed undo-choice undo-settled (undo-answer mark (undo-of s m j mark .answer) .number) (eqb-true (undo-choice 0) 0 e)))
       go false e = rw e (sym (when-stopped undo-choice undo-settled (undo-answer mark (undo-of s m j mark .answer) .number) (eqb-false (undo-choice 0) 0 e)))
 
-  pub undo-verdict : Verdict (undo-table win s m j mark) (undo-call win s m j mark .a .number)
-  undo-verdict = verdict (undo-table win s m j mark) (undo-call win s m j mark .a .number) (omega arith) (rw undo-call-number undo-given)
+  pub undo-verdict : Verdict (undo-table board s m j mark) (undo-call board s m j mark .a .number)
+  undo-verdict = verdict (undo-table board s m j mark) (undo-call board s m j mark .a .number) (omega arith) (rw undo-call-number undo-given)
 
   -- undo accepted by its tests and its record: the old values put back, and the mark at the record's start
-  pub undo-accepted : (start : ℕ) (t n : List ℕ) → undo-number win s m j mark ≡ 0 → undo-of s m j mark ≡ record { slots = t; memory = n; answer = Done start }
-      → undo-call win s m j mark ≡ record { s = t; m = n; a = record { number = 0; mark = start } }
+  pub undo-accepted : (start : ℕ) (t n : List ℕ) → undo-number board s m j mark ≡ 0 → undo-of s m j mark ≡ record { slots = t; memory = n; answer = Done start }
+      → undo-call board s m j mark ≡ record { s = t; m = n; a = record { number = 0; mark = start } }
   unfolding undo-call
   undo-accepted start t n e f = rw (e, f)
 
-  pub undo-refused : (undo-call win s m j mark .a .number ≡ 0 → ⊥)
-      → undo-call win s m j mark ≡ record { s = s; m = m; a = record { number = undo-call win s m j mark .a .number; mark = mark } }
+  pub undo-refused : (undo-call board s m j mark .a .number ≡ 0 → ⊥)
+      → undo-call board s m j mark ≡ record { s = s; m = m; a = record { number = undo-call board s m j mark .a .number; mark = mark } }
   unfolding undo-call
-  undo-refused h = go (eqb (undo-number win s m j mark) 0) refl (undo-of s m j mark .answer) refl
+  undo-refused h = go (eqb (undo-number board s m j mark) 0) refl (undo-of s m j mark .answer) refl
     where
-      go : (b : Bool) → eqb (undo-number win s m j mark) 0 ≡ b → (a : Answer) → undo-of s m j mark .answer ≡ a
-          → undo-call win s m j mark ≡ record { s = s; m = m; a = record { number = undo-call win s m j mark .a .number; mark = mark } }
+      go : (b : Bool) → eqb (undo-number board s m j mark) 0 ≡ b → (a : Answer) → undo-of s m j mark .answer ≡ a
+          → undo-call board s m j mark ≡ record { s = s; m = m; a = record { number = undo-call board s m j mark .a .number; mark = mark } }
       go false e a f = rw e
       go true e (Done start) f = absurd (h (rw (e, f)))
       go true e Refused f = let u = undo-when-none s m j mark (none-when-refused s m j mark f) in rw (e, u)
 
-  pub undo-number-when : memory-fits m ≡ true → state-fits s ≡ true → window-fits win m ≡ true → mark ≤ length j → (mark ≡ 0 → ⊥) → undo-number win s m j mark ≡ 0
+  pub undo-number-when : memory-fits m ≡ true → state-fits s ≡ true → window-fits board m ≡ true → mark ≤ length j → (mark ≡ 0 → ⊥) → undo-number board s m j mark ≡ 0
   unfolding undo-number
-  undo-number-when f g o h i = first-when win s m _ f g o ∙ rw (le-ltb (length j) mark h, ne-eqb mark 0 i)
+  undo-number-when f g o h i = first-when board s m _ f g o ∙ rw (le-ltb (length j) mark h, ne-eqb mark 0 i)

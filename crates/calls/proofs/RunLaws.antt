@@ -16,7 +16,7 @@ use lib.Dec.{eqb}
 use borrow.Author.Tests.{ltb-true, ltb-false, eqb-true, eqb-false}
 use Rattle.bits.specs.Bits.{iter}
 use Rattle.numbers.proofs.WrittenLaws.{length-written}
-use Rattle.bus.specs.declared.Window.{Window}
+use Rattle.bus.specs.Bus.{Board}
 use Rattle.bank.specs.Bank.{pc-of, mode-of}
 use Rattle.record.specs.Limits.{longest-record}
 use Rattle.record.specs.Change.{diffs}
@@ -38,8 +38,8 @@ use Rattle.calls.proofs.FrameLaws.{Framed, framed-refl, framed-trans, N
 abbrev pub plain : Request
 plain = record { level = 0; vector = 0 }
 
-abbrev pub machine-of : Window → RunCall → Machine
-machine-of win c = record { window = win; slots = c .s; memory = c .m; journal = c .j; mark = c .a .mark }
+abbrev pub machine-of : Board → RunCall → Machine
+machine-of board c = record { board = board; slots = c .s; memory = c .m; journal = c .j; mark = c .a .mark }
 
 module _ (w : Manner) where
   abbrev pub one : Machine → Machine
@@ -71,7 +71,7 @@ module _ (w : Manner) where
     moved : c .a .moved ≡ capped (v + moved-in done x)
     dropped : c .a .dropped ≡ u + dropped-in done x
     within : n + done ≤ budget
-    same : machine-of (x .window) c ≡ iter one done x
+    same : machine-of (x .board) c ≡ iter one done x
     accepted : (i : ℕ) → i < done → stepping w 0 0 (iter one i x) .a .number ≡ 0
     before : (i : ℕ) → i < done → NoneApplies (reasons-at budget stop (n + i) (iter one i x))
     reason : Given (reasons-at budget stop (n + done) (iter one done x)) (c .a .reason)
@@ -80,7 +80,7 @@ module _ (w : Manner) where
   module _ (budget stop : ℕ) where
     -- what is left of a run at a machine, k of its budget
     abbrev left : ℕ → ℕ → ℕ → ℕ → ℕ → Machine → RunCall
-    left k n t v u x = running w (x .window) k n t v u stop (x .slots) (x .memory) (x .journal) (x .mark)
+    left k n t v u x = running w (x .board) k n t v u stop (x .slots) (x .memory) (x .journal) (x .mark)
 
     -- a run that ends here, by a reason
     here : (reason n t v u : ℕ) (x : Machine) → n ≤ budget → Given (reasons-at budget stop n x) reason → (reason ≡ 0 → ⊥)
@@ -129,9 +129,9 @@ module _ (w : Manner) where
 
     -- an accepted step with level 0 is the step that the run takes
     one-taken : (x : Machine) → stepping w 0 0 x .a .number ≡ 0
-        → one x ≡ (let c = step-with-room w (x .window) (x .slots) (x .memory) 0 0 (x .journal) (x .mark) in record { window = x .window; slots = c .s; memory = c .m; journal = c .j; mark = c .a .mark })
+        → one x ≡ (let c = step-with-room w (x .board) (x .slots) (x .memory) 0 0 (x .journal) (x .mark) in record { board = x .board; slots = c .s; memory = c .m; journal = c .j; mark = c .a .mark })
     unfolding act
-    one-taken x e = ap (λ (c : StepCall). record { window = x .window; slots = c .s; memory = c .m; journal = c .j; mark = c .a .mark }) (step-accepted w (x .window) (x .slots) (x .memory) 0 (x .journal) (x .mark) 0 e)
+    one-taken x e = ap (λ (c : StepCall). record { board = x .board; slots = c .s; memory = c .m; journal = c .j; mark = c .a .mark }) (step-accepted w (x .board) (x .slots) (x .memory) 0 (x .journal) (x .mark) 0 e)
 
     -- the lines of room, told by the tests
     room-free : (w : Manner) (j : List ℕ) (mark : ℕ) → no-room w j mark ≡ false → NoRoom w j mark → ⊥
@@ -158,17 +158,17 @@ module _ (w : Manner) where
       way-none Dropping e g = (no-torn-way (length (x .memory)) (x .journal) (x .mark) e, g)
       way-none Keeping e g = g
 
-    module _ (x : Machine) (valid : Valid (x .slots) (x .memory)) (fits : window-fits (x .window) (x .memory) ≡ true) (lent : JournalLent w (x .journal)) (inside : x .mark ≤ length (x .journal)) where
+    module _ (x : Machine) (valid : Valid (x .slots) (x .memory)) (fits : window-fits (x .board) (x .memory) ≡ true) (lent : JournalLent w (x .journal)) (inside : x .mark ≤ length (x .journal)) where
       one-accepted : no-room w (x .journal) (x .mark) ≡ false → torn-way w (length (x .memory)) (x .journal) (x .mark) ≡ false → (mode-of (x .slots) ≡ 2 → ⊥) → stepping w 0 0 x .a .number ≡ 0
       one-accepted free whole runs =
-          step-call-number w (x .window) (x .slots) (x .memory) 0 (x .journal) (x .mark) 0
-          ∙ step-number-when w (x .window) (x .slots) (x .memory) 0 (x .journal) (x .mark) (valid .fits) (state-fits-when (x .slots) (x .memory) valid) fits (omega arith) inside free runs whole
+          step-call-number w (x .board) (x .slots) (x .memory) 0 (x .journal) (x .mark) 0
+          ∙ step-number-when w (x .board) (x .slots) (x .memory) 0 (x .journal) (x .mark) (valid .fits) (state-fits-when (x .slots) (x .memory) valid) fits (omega arith) inside free runs whole
 
       module _ (ok : stepping w 0 0 x .a .number ≡ 0) where
         one-valid : Valid (one x .slots) (one x .memory)
         one-valid = rw (act-step w plain x ok) (valid-after plain (seen-at w x) valid)
 
-        one-fits : window-fits (one x .window) (one x .memory) ≡ true
+        one-fits : window-fits (one x .board) (one x .memory) ≡ true
         one-fits = rw (act-step w plain x ok) (window-after plain (seen-at w x) valid fits)
 
         one-lent : JournalLent w (one x .journal)
@@ -186,7 +186,7 @@ module _ (w : Manner) where
       there-line = record { number = 5; applies = pc-of (x .slots) ≡ stop }
 
       ran-on : (k n t v u : ℕ) → n + suc k ≡ budget
-          → ((y : Machine) (t v u : ℕ) → Valid (y .slots) (y .memory) → window-fits (y .window) (y .memory) ≡ true → JournalLent w (y .journal) → y .mark ≤ length (y .journal) → Ran budget stop (n + 1) t v u y (left k (n + 1) t v u y))
+          → ((y : Machine) (t v u : ℕ) → Valid (y .slots) (y .memory) → window-fits (y .board) (y .memory) ≡ true → JournalLent w (y .journal) → y .mark ≤ length (y .journal) → Ran budget stop (n + 1) t v u y (left k (n + 1) t v u y))
           → Ran budget stop n t v u x (left (suc k) n t v u x)
       unfolding running
       ran-on k n t v u e next =
@@ -226,13 +226,13 @@ module _ (w : Manner) where
           go false p false q false r false o false s =
               let runs = eqb-false (mode-of (x .slots)) 2 p in
               let ok = one-accepted r o runs in
-              let c = step-with-room w (x .window) (x .slots) (x .memory) 0 0 (x .journal) (x .mark) in
-              let d = step-accepted w (x .window) (x .slots) (x .memory) 0 (x .journal) (x .mark) 0 ok in
+              let c = step-with-room w (x .board) (x .slots) (x .memory) 0 0 (x .journal) (x .mark) in
+              let d = step-accepted w (x .board) (x .slots) (x .memory) 0 (x .journal) (x .mark) 0 ok in
               let told = stepping w 0 0 x .a in
-              let rest = running w (x .window) k (n + 1) (t + c .a .clocks) (v + c .a .moved) (u + c .a .dropped) stop (c .s) (c .m) (c .j) (c .a .mark) in
+              let rest = running w (x .board) k (n + 1) (t + c .a .clocks) (v + c .a .moved) (u + c .a .dropped) stop (c .s) (c .m) (c .j) (c .a .mark) in
               let same : left k (n + 1) (t + told .clocks) (v + told .moved) (u + told .dropped) (one x) ≡ rest =
               ap (left k (n + 1) (t + told .clocks) (v + told .moved) (u + told .dropped)) (one-taken x ok)
-              ∙ ap (λ (o : StepCall). running w (x .window) k (n + 1) (t + o .a .clocks) (v + o .a .moved) (u + o .a .dropped) stop (c .s) (c .m) (c .j) (c .a .mark)) d in
+              ∙ ap (λ (o : StepCall). running w (x .board) k (n + 1) (t + o .a .clocks) (v + o .a .moved) (u + o .a .dropped) stop (c .s) (c .m) (c .j) (c .a .mark)) d in
               let then : Ran budget stop (n + 1) (t + told .clocks) (v + told .moved) (u + told .dropped) (one x) rest =
               subst (Ran budget stop (n + 1) (t + told .clocks) (v + told .moved) (u + told .dropped) (one x)) same
               (next (one x) (t + told .clocks) (v + told .moved) (u + told .dropped) (one-valid ok) (one-fits ok) (one-lent ok) (one-inside ok)) in
@@ -240,7 +240,7 @@ module _ (w : Manner) where
               (onward n t v u x rest ok
               (spent, (runs, (eqb-false (mode-of (x .slots)) 1 q, (room-free w (x .journal) (x .mark) r, way-none x 6 (there-line ∷ []) w o (eqb-false (pc-of (x .slots)) stop s, tt))))) then)
 
-    ran : (k n t v u : ℕ) (x : Machine) → n + k ≡ budget → Valid (x .slots) (x .memory) → window-fits (x .window) (x .memory) ≡ true → JournalLent w (x .journal) → x .mark ≤ length (x .journal) → Ran budget stop n t v u x (left k n t v u x)
+    ran : (k n t v u : ℕ) (x : Machine) → n + k ≡ budget → Valid (x .slots) (x .memory) → window-fits (x .board) (x .memory) ≡ true → JournalLent w (x .journal) → x .mark ≤ length (x .journal) → Ran budget stop n t v u x (left k n t v u x)
     unfolding running
     ran zero n t v u x e valid fits lent h = here 1 n t v u x (omega arith) (this (omega arith) refl) (λ z. omega arith)
     ran (suc k) n t v u x e valid fits lent h = ran-on x valid fits lent h k n t v u e (λ y t v u f g i l. ran k (n + 1) t v u y (omega arith) f g i l)
@@ -264,7 +264,7 @@ module _ (w : Manner) where
       let steps : r .done ≡ running-on w budget stop x .a .steps = rw is (sym (r .steps ∙ from-0 (r .done))) in
       let all : AsSteps budget stop x (r .done) =
       record {
-        same = ap (machine-of (x .window)) is ∙ r .same;
+        same = ap (machine-of (x .board)) is ∙ r .same;
         accepted = r .accepted;
         clocks = rw is (r .clocks ∙ from-0 (clocks-in (r .done) x));
         moved = rw is (r .moved ∙ ap capped (from-0 (moved-in (r .done) x)));
@@ -276,15 +276,15 @@ module _ (w : Manner) where
       } in
       subst (AsSteps budget stop x) steps all
 
-  run-accepted-inv : (budget stop : ℕ) (x : Machine) → running-on w budget stop x .a .number ≡ 0 → (memory-fits (x .memory) ≡ true) × (state-fits (x .slots) ≡ true) × (budget ≤ 1000000) × (x .mark ≤ length (x .journal)) × (window-fits (x .window) (x .memory) ≡ true)
+  run-accepted-inv : (budget stop : ℕ) (x : Machine) → running-on w budget stop x .a .number ≡ 0 → (memory-fits (x .memory) ≡ true) × (state-fits (x .slots) ≡ true) × (budget ≤ 1000000) × (x .mark ≤ length (x .journal)) × (window-fits (x .board) (x .memory) ≡ true)
   run-accepted-inv budget stop x e =
-      run-inv (x .window) (x .slots) (x .memory) budget (x .journal) (x .mark) (sym (run-call-number (x .window) (x .slots) (x .memory) budget (x .journal) (x .mark) w stop) ∙ e)
+      run-inv (x .board) (x .slots) (x .memory) budget (x .journal) (x .mark) (sym (run-call-number (x .board) (x .slots) (x .memory) budget (x .journal) (x .mark) w stop) ∙ e)
 
   pub run-as-steps : (budget stop : ℕ) (x : Machine) → Lent (x .slots) (x .memory) → JournalLent w (x .journal) → running-on w budget stop x .a .number ≡ 0
       → AsSteps budget stop x (running-on w budget stop x .a .steps)
   run-as-steps budget stop x lent journal e =
       let inv = run-accepted-inv budget stop x e in
-      as-steps budget stop x (running w (x .window) budget 0 0 0 0 stop (x .slots) (x .memory) (x .journal) (x .mark)) (run-accepted (x .window) (x .slots) (x .memory) budget (x .journal) (x .mark) w stop e)
+      as-steps budget stop x (running w (x .board) budget 0 0 0 0 stop (x .slots) (x .memory) (x .journal) (x .mark)) (run-accepted (x .board) (x .slots) (x .memory) budget (x .journal) (x .mark) w stop e)
       (ran budget stop budget 0 0 0 0 x (omega arith) (valid-when-accepted (x .slots) (x .memory) lent (inv .0) (inv .1)) (inv .4) journal (inv .3))
 
   -- ---- the memory that a run leaves: a byte that is in the record of none of its steps is as it was

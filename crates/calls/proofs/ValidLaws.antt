@@ -14,7 +14,7 @@ use lib.Dec.{ltb, leb, eqb}
 use borrow.Author.Tests.{le-leb, leb-true, eqb-true, ltb-true, ltb-false}
 use Rattle.codes.specs.Codes.{Sr, Mode}
 use Rattle.bits.proofs.BitsLaws.{and-left, and-right}
-use Rattle.bus.specs.declared.Window.{Window}
+use Rattle.bus.specs.Bus.{Board}
 use Rattle.bank.specs.Bank.{sr-of, mode-of}
 use Rattle.record.specs.Limits.{slot-limit, longest-record, valid-status, valid-value, Each, ValidSlots, ValidBytes}
 use Rattle.record.specs.Change.{step-record}
@@ -56,11 +56,11 @@ state-inv s e =
     (and-left a b e, leb-true (mode-of s) 2 (and-right a b e))
 
 -- a window that fits
-pub window-inv : (win : Window) (m : List ℕ) → window-fits win m ≡ true → (win .lo ≤ win .hi) × (win .hi ≤ length m)
-window-inv win m e =
-    let a = leb (win .lo) (win .hi) in
-    let b = leb (win .hi) (length m) in
-    (leb-true (win .lo) (win .hi) (and-left a b e), leb-true (win .hi) (length m) (and-right a b e))
+pub window-inv : (board : Board) (m : List ℕ) → window-fits board m ≡ true → (board .lo ≤ board .hi) × (board .hi ≤ length m)
+window-inv board m e =
+    let a = leb (board .lo) (board .hi) in
+    let b = leb (board .hi) (length m) in
+    (leb-true (board .lo) (board .hi) (and-left a b e), leb-true (board .hi) (length m) (and-right a b e))
 
 -- ---- what is lent, once it is accepted, is valid
 lent-word : (s : List ℕ) → Each (λ k v. v < 2 ^ 32) 0 s → (k : ℕ) → getD s k 0 < 2 ^ 32
@@ -105,11 +105,11 @@ module _ (s m : List ℕ) (v : Valid s m) where
   small-enough = fits-inv m (v .fits) .2
 
 -- ---- after a step
-module _ (win : Window) (s m : List ℕ) (level vector : ℕ) (v : Valid s m) where
-  abbrev pub kept-by : Kept s m (one-step win s m level vector .s) (one-step win s m level vector .m)
-  kept-by = one-step-keeps win s m level vector (v .slots) (v .values) (v .bytes)
+module _ (board : Board) (s m : List ℕ) (level vector : ℕ) (v : Valid s m) where
+  abbrev pub kept-by : Kept s m (one-step board s m level vector .s) (one-step board s m level vector .m)
+  kept-by = one-step-keeps board s m level vector (v .slots) (v .values) (v .bytes)
 
-  pub valid-after-step : Valid (one-step win s m level vector .s) (one-step win s m level vector .m)
+  pub valid-after-step : Valid (one-step board s m level vector .s) (one-step board s m level vector .m)
   valid-after-step =
       record {
         slots = omega (arith, kept-by .slots, v .slots);
@@ -119,10 +119,10 @@ module _ (win : Window) (s m : List ℕ) (level vector : ℕ) (v : Valid s m) wh
       }
 
   -- and a window that fits does so still
-  pub window-after-step : window-fits win m ≡ true → window-fits win (one-step win s m level vector .m) ≡ true
+  pub window-after-step : window-fits board m ≡ true → window-fits board (one-step board s m level vector .m) ≡ true
   window-after-step e = rw (kept-by .memory) e
 
   -- its record is at most longest-record bytes long
-  pub record-room : length (step-record s (one-step win s m level vector .s) m (one-step win s m level vector .m)) ≤ longest-record
+  pub record-room : length (step-record s (one-step board s m level vector .s) m (one-step board s m level vector .m)) ≤ longest-record
   record-room =
-      record-length s (one-step win s m level vector .s) m (one-step win s m level vector .m) (v .slots) (small-enough s m v) (kept-by .few) (v .values) (v .bytes)
+      record-length s (one-step board s m level vector .s) m (one-step board s m level vector .m) (v .slots) (small-enough s m v) (kept-by .few) (v .values) (v .bytes)

@@ -1,17 +1,17 @@
 -- Calls.antt - reset, step, run and undo: the complete answer of each call, and slots, memory and journal afterwards, for every input.
 -- A refusal's number is that of the first line of the call's table that applies; a refused call leaves everything as it was (a refused
--- reset: the fixed state). The window is set by the host: a reset gives one, step, run and undo read it, and none changes it.
+-- reset: the fixed state). Window and ROM are set by the host: a reset gives a window, step, run and undo read both, none changes either.
 -- Step and run go by a manner: where the journal is full, Dropping drops its oldest records, and Keeping takes no step.
--- Laws: proofs/.  Source: [01 Calls and what they give back], [01 The journal], [K2], [K5], [K7].
+-- Laws: proofs/.  Source: [01 Calls and what they give back], [01 The journal], [K2], [K5], [K7], [K10].
 use Prim.Native.Nat.{ℕ, zero, suc, _+_, _-_, _%_}
-use mathlib.Core.Bool.{Bool, true, false, _&&_, not}
+use mathlib.Core.Bool.{Bool, true, false, _&&_, _||_, not}
 use mathlib.Core.List.{List, [], _∷_}
 use lib.ListN.{length}
 use lib.Dec.{ltb, leb, eqb}
-use Rattle.codes.specs.Codes.{Running, Stopped, Halted, ResetStatus, LeastMemory, MostMemory, TopLevel, MostSteps, NoEvent, DataRead}
+use Rattle.codes.specs.Codes.{Running, Stopped, Halted, ResetStatus, LeastMemory, MostMemory, RomStart, MostRom, TopLevel, MostSteps, NoEvent, DataRead}
 use Rattle.bits.specs.Bits.{pick}
 use Rattle.bus.specs.declared.Window.{Window}
-use Rattle.bus.specs.Bus.{all-of, read-long}
+use Rattle.bus.specs.Bus.{Board, all-of, read-long}
 use Rattle.bank.specs.Bank.{long, pc-of, sr-of, mode-of}
 use Rattle.exception.specs.Exceptions.{fresh}
 use Rattle.step.specs.Steps.{one-step, step-clocks}
@@ -38,16 +38,25 @@ memory-fits m = eqb (length m % 2) 0 && leb LeastMemory (length m) && leb (lengt
 abbrev pub state-fits : List ℕ → Bool
 state-fits s = valid-status (sr-of s) && leb (mode-of s) Halted
 
--- refusal 10 is given exactly when this does not hold: the window's ends in their order, and none past memory  [K7]
-abbrev pub window-fits : Window → List ℕ → Bool
-window-fits win m = leb (win .lo) (win .hi) && leb (win .hi) (length m)
+-- refusal 12 is given exactly when this does not hold: an even length, not too long, and where there is a ROM no memory past its start  [K10]
+abbrev pub rom-fits : List ℕ → List ℕ → Bool
+rom-fits rom m = eqb (length rom % 2) 0 && leb (length rom) MostRom && (eqb (length rom) 0 || leb (length m) RomStart)
 
--- what step, run and undo judge first: 1, 2 and 10, or else what is last  [01 Calls, table] [K7]
-unfoldable pub first-tests : Window → List ℕ → List ℕ → ℕ → ℕ
-first-tests win s m last =
+-- where what a window can show ends: where memory does, or, where there is one, the ROM  [K7] [K10]
+abbrev pub window-end : List ℕ → List ℕ → ℕ
+window-end rom m = pick (eqb (length rom) 0) (length m) (RomStart + length rom)
+
+-- refusal 10 is given exactly when this does not hold: the window's ends in their order, and none past that end  [K7] [K10]
+abbrev pub window-fits : Board → List ℕ → Bool
+window-fits board m = leb (board .window .lo) (board .window .hi) && leb (board .window .hi) (window-end (board .rom) m)
+
+-- what step, run and undo judge first: 1, 12, 2 and 10, or else what is last  [01 Calls, table] [K7] [K10]
+unfoldable pub first-tests : Board → List ℕ → List ℕ → ℕ → ℕ
+first-tests board s m last =
     pick (not (memory-fits m)) 1
+    (pick (not (rom-fits (board .rom) m)) 12
     (pick (not (state-fits s)) 2
-    (pick (not (window-fits win m)) 10 last))
+    (pick (not (window-fits board m)) 10 last)))
 
 -- ---- reset
 
@@ -61,21 +70,21 @@ reset-slots m =
 abbrev pub refused-slots : List ℕ
 refused-slots = 0 ∷ 0 ∷ 0 ∷ 0 ∷ 0 ∷ 0 ∷ 0 ∷ 0 ∷ 0 ∷ 0 ∷ 0 ∷ 0 ∷ 0 ∷ 0 ∷ 0 ∷ 0 ∷ 0 ∷ 0 ∷ 0 ∷ Halted ∷ []
 
--- 1, or 0  [01 Calls, table]
-abbrev pub reset-number : List ℕ → ℕ
-reset-number m = pick (memory-fits m) 0 1
+-- 1, 12, or 0  [01 Calls, table] [K10]
+unfoldable pub reset-number : List ℕ → List ℕ → ℕ
+reset-number m rom = pick (not (memory-fits m)) 1 (pick (not (rom-fits rom m)) 12 0)
 
 -- the slots that a reset gives, refused or not  [01 Calls, Reset] [01 Calls, table]
-unfoldable pub reset-call : List ℕ → List ℕ
-reset-call m = pick (memory-fits m) (reset-slots m) refused-slots
+unfoldable pub reset-call : List ℕ → List ℕ → List ℕ
+reset-call m rom = pick (eqb (reset-number m rom) 0) (reset-slots m) refused-slots
 
--- the window that a reset gives: all of memory, or nothing where it is refused  [K7]
-abbrev pub reset-window : List ℕ → Window
-reset-window m = record { lo = 0; hi = pick (memory-fits m) (length m) 0 }
+-- the window that a reset gives: all of memory, with a ROM too, or nothing where it is refused  [K7] [K10]
+abbrev pub reset-window : List ℕ → List ℕ → Window
+reset-window m rom = record { lo = 0; hi = pick (eqb (reset-number m rom) 0) (length m) 0 }
 
 -- a reset's answer: its number, and the ends of the window  [01 Calls, table] [K7]
-unfoldable pub reset-answer : List ℕ → ResetAnswer
-reset-answer m = record { number = reset-number m; lo = reset-window m .lo; hi = reset-window m .hi }
+unfoldable pub reset-answer : List ℕ → List ℕ → ResetAnswer
+reset-answer m rom = record { number = reset-number m rom; lo = reset-window m rom .lo; hi = reset-window m rom .hi }
 
 -- ---- room for one more record, in either manner
 
@@ -109,25 +118,25 @@ pub record StepCall : Type 0 where
   pub j : List ℕ
   pub a : StepAnswer
 
--- 1, 2, 10 and 3 to 6, or else what is last  [01 Calls, table] [K5] [K7]
-unfoldable pub step-tests : Manner → Window → List ℕ → List ℕ → ℕ → List ℕ → ℕ → ℕ → ℕ
-step-tests w win s m level j mark last =
-    first-tests win s m
+-- 1, 12, 2, 10 and 3 to 6, or else what is last  [01 Calls, table] [K5] [K7] [K10]
+unfoldable pub step-tests : Manner → Board → List ℕ → List ℕ → ℕ → List ℕ → ℕ → ℕ → ℕ
+step-tests w board s m level j mark last =
+    first-tests board s m
     (pick (ltb TopLevel level) 3
     (pick (ltb (length j) mark) 4
     (pick (no-room w j mark) 5
     (pick (eqb (mode-of s) Halted) 6 last))))
 
 -- these, 8 where a record on the way back is not well shaped, or 0  [01 Calls, table] [K5]
-unfoldable pub step-number : Manner → Window → List ℕ → List ℕ → ℕ → List ℕ → ℕ → ℕ
-step-number w win s m level j mark = step-tests w win s m level j mark (pick (torn-way w (length m) j mark) 8 0)
+unfoldable pub step-number : Manner → Board → List ℕ → List ℕ → ℕ → List ℕ → ℕ → ℕ
+step-number w board s m level j mark = step-tests w board s m level j mark (pick (torn-way w (length m) j mark) 8 0)
 
 -- one step by the definition, the record that before and after determine, at the mark, and its clocks  [01 One step] [01 The journal] [K2]
-unfoldable pub step-taken : Window → List ℕ → List ℕ → ℕ → ℕ → List ℕ → ℕ → StepCall
-step-taken win s m level vector j mark =
-    let t = one-step win s m level vector in
+unfoldable pub step-taken : Board → List ℕ → List ℕ → ℕ → ℕ → List ℕ → ℕ → StepCall
+step-taken board s m level vector j mark =
+    let t = one-step board s m level vector in
     let b = step-record s (t .s) m (t .m) in
-    let answer : StepAnswer = record { number = 0; event = t .event; mark = mark + length b; clocks = step-clocks win s m level vector; moved = 0; dropped = 0 } in
+    let answer : StepAnswer = record { number = 0; event = t .event; mark = mark + length b; clocks = step-clocks board s m level vector; moved = 0; dropped = 0 } in
     record { s = t .s; m = t .m; j = written j mark b; a = answer }
 
 -- the same, with what making room moved and dropped  [K5]
@@ -138,17 +147,17 @@ in-room r t =
     record { s = t .s; m = t .m; j = t .j; a = answer }
 
 -- a step where there is room, or where room can be made: the room first, then the step's own record  [01 Calls] [K5]
-unfoldable pub step-with-room : Manner → Window → List ℕ → List ℕ → ℕ → ℕ → List ℕ → ℕ → StepCall
-step-with-room w win s m level vector j mark =
+unfoldable pub step-with-room : Manner → Board → List ℕ → List ℕ → ℕ → ℕ → List ℕ → ℕ → StepCall
+step-with-room w board s m level vector j mark =
     let r = room-for w (length m) j mark in
-    in-room (r .a) (step-taken win s m level vector (r .j) (r .a .mark))
+    in-room (r .a) (step-taken board s m level vector (r .j) (r .a .mark))
 
 -- a step, or its refusal, which alters nothing, takes no clocks and moves and drops nothing  [01 Calls] [01 Calls, table] [K2] [K5]
-unfoldable pub step-call : Manner → Window → List ℕ → List ℕ → ℕ → ℕ → List ℕ → ℕ → StepCall
-step-call w win s m level vector j mark =
-    let n = step-number w win s m level j mark in
+unfoldable pub step-call : Manner → Board → List ℕ → List ℕ → ℕ → ℕ → List ℕ → ℕ → StepCall
+step-call w board s m level vector j mark =
+    let n = step-number w board s m level j mark in
     let refusal : StepAnswer = record { number = n; event = NoEvent; mark = mark; clocks = 0; moved = 0; dropped = 0 } in
-    pick (eqb n 0) (step-with-room w win s m level vector j mark) (record { s = s; m = m; j = j; a = refusal })
+    pick (eqb n 0) (step-with-room w board s m level vector j mark) (record { s = s; m = m; j = j; a = refusal })
 
 -- ---- run
 
@@ -159,10 +168,10 @@ pub record RunCall : Type 0 where
   pub j : List ℕ
   pub a : RunAnswer
 
--- 1, 2, 10, 3 and 4, or 0, in either manner  [01 Calls, table] [K7]
-unfoldable pub run-number : Window → List ℕ → List ℕ → ℕ → List ℕ → ℕ → ℕ
-run-number win s m budget j mark =
-    first-tests win s m
+-- 1, 12, 2, 10, 3 and 4, or 0, in either manner  [01 Calls, table] [K7] [K10]
+unfoldable pub run-number : Board → List ℕ → List ℕ → ℕ → List ℕ → ℕ → ℕ
+run-number board s m budget j mark =
+    first-tests board s m
     (pick (ltb MostSteps budget) 3
     (pick (ltb (length j) mark) 4 0))
 
@@ -173,11 +182,11 @@ ended reason n c v u s m j mark =
 
 -- what is left of a run, k of its budget, with n steps of c clocks done, v bytes moved and u records dropped: the reasons in their order,
 -- and a step with level 0, whose clocks, bytes and records are added  [01 Calls, Run] [K2] [K5]
-unfoldable pub running : Manner → Window → ℕ → ℕ → ℕ → ℕ → ℕ → ℕ → List ℕ → List ℕ → List ℕ → ℕ → RunCall
-running w win zero n c v u stop s m j mark = ended 1 n c v u s m j mark
-running w win (suc k) n c v u stop s m j mark =
-    let t = step-with-room w win s m 0 0 j mark in
-    let rest = running w win k (n + 1) (c + t .a .clocks) (v + t .a .moved) (u + t .a .dropped) stop (t .s) (t .m) (t .j) (t .a .mark) in
+unfoldable pub running : Manner → Board → ℕ → ℕ → ℕ → ℕ → ℕ → ℕ → List ℕ → List ℕ → List ℕ → ℕ → RunCall
+running w board zero n c v u stop s m j mark = ended 1 n c v u s m j mark
+running w board (suc k) n c v u stop s m j mark =
+    let t = step-with-room w board s m 0 0 j mark in
+    let rest = running w board k (n + 1) (c + t .a .clocks) (v + t .a .moved) (u + t .a .dropped) stop (t .s) (t .m) (t .j) (t .a .mark) in
     pick (eqb (mode-of s) Halted) (ended 2 n c v u s m j mark)
     (pick (eqb (mode-of s) Stopped) (ended 3 n c v u s m j mark)
     (pick (no-room w j mark) (ended 4 n c v u s m j mark)
@@ -185,11 +194,11 @@ running w win (suc k) n c v u stop s m j mark =
     (pick (eqb (pc-of s) stop) (ended 5 n c v u s m j mark) rest))))
 
 -- a run, or its refusal, which alters nothing, takes no clocks and moves and drops nothing  [01 Calls, Run] [01 Calls, table] [K2] [K5]
-unfoldable pub run-call : Manner → Window → List ℕ → List ℕ → ℕ → ℕ → List ℕ → ℕ → RunCall
-run-call w win s m budget stop j mark =
-    let n = run-number win s m budget j mark in
+unfoldable pub run-call : Manner → Board → List ℕ → List ℕ → ℕ → ℕ → List ℕ → ℕ → RunCall
+run-call w board s m budget stop j mark =
+    let n = run-number board s m budget j mark in
     let refusal : RunAnswer = record { number = n; reason = 0; mark = mark; steps = 0; clocks = 0; moved = 0; dropped = 0 } in
-    pick (eqb n 0) (running w win budget 0 0 0 0 stop s m j mark) (record { s = s; m = m; j = j; a = refusal })
+    pick (eqb n 0) (running w board budget 0 0 0 0 stop s m j mark) (record { s = s; m = m; j = j; a = refusal })
 
 -- ---- undo
 
@@ -199,10 +208,10 @@ pub record UndoCall : Type 0 where
   pub m : List ℕ
   pub a : UndoAnswer
 
--- 1, 2, 10, 4 or 7, or 0  [01 Calls, table] [K7]
-unfoldable pub undo-number : Window → List ℕ → List ℕ → List ℕ → ℕ → ℕ
-undo-number win s m j mark =
-    first-tests win s m
+-- 1, 12, 2, 10, 4 or 7, or 0  [01 Calls, table] [K7] [K10]
+unfoldable pub undo-number : Board → List ℕ → List ℕ → List ℕ → ℕ → ℕ
+undo-number board s m j mark =
+    first-tests board s m
     (pick (ltb (length j) mark) 4
     (pick (eqb mark 0) 7 0))
 
@@ -212,8 +221,8 @@ undo-answer mark (Done start) = record { number = 0; mark = start }
 undo-answer mark Refused = record { number = 8; mark = mark }
 
 -- an undo, or its refusal, which alters nothing  [01 Calls, table] [01 The journal]
-unfoldable pub undo-call : Window → List ℕ → List ℕ → List ℕ → ℕ → UndoCall
-undo-call win s m j mark =
-    let n = undo-number win s m j mark in
+unfoldable pub undo-call : Board → List ℕ → List ℕ → List ℕ → ℕ → UndoCall
+undo-call board s m j mark =
+    let n = undo-number board s m j mark in
     let u = undo-of s m j mark in
     pick (eqb n 0) (record { s = u .slots; m = u .memory; a = undo-answer mark (u .answer) }) (record { s = s; m = m; a = record { number = n; mark = mark } })

@@ -1,20 +1,20 @@
 -- History.antt - a mix of calls, each given what the last one returned; the steps that stand after it; those steps taken alone.
 -- Not here: what a call does (Calls.antt), what a step does (one-step of the crate step).
--- Laws: proofs/GoingBack.antt, proofs/ClockLaws.antt.  Source: [00 demand 3], [K2], [K5], [K7].
+-- Laws: proofs/GoingBack.antt, proofs/ClockLaws.antt.  Source: [00 demand 3], [K2], [K5], [K7], [K10].
 use Prim.Native.Nat.{ℕ, zero, suc, _+_, _≤_}
 use mathlib.Core.List.{List, [], _∷_}
 use lib.ListN.{length}
 use lib.Dec.{eqb}
 use Rattle.bits.specs.Bits.{pick, iter}
-use Rattle.bus.specs.declared.Window.{Window}
+use Rattle.bus.specs.Bus.{Board}
 use Rattle.step.specs.Steps.{one-step, step-clocks}
 use Rattle.record.specs.Change.{step-record}
 use Rattle.calls.specs.declared.Manner.{Manner}
 use Rattle.calls.specs.Calls.{StepCall, RunCall, UndoCall, step-call, run-call, undo-call}
 
--- what the calls are lent, the window, which the host sets and no call changes, and the mark  [01 Calls] [K7]
+-- what the calls are lent, the board, window and ROM, which the host sets and no call changes, and the mark  [01 Calls] [K7] [K10]
 pub record Machine : Type 0 where
-  pub window : Window
+  pub board : Board
   pub slots : List ℕ
   pub memory : List ℕ
   pub journal : List ℕ
@@ -35,28 +35,28 @@ pub data Call : Type 0 where
 
 -- an undo of a machine  [01 Calls]
 abbrev pub undoing : Machine → UndoCall
-undoing x = undo-call (x .window) (x .slots) (x .memory) (x .journal) (x .mark)
+undoing x = undo-call (x .board) (x .slots) (x .memory) (x .journal) (x .mark)
 
 module _ (w : Manner) where
   -- a step of a machine  [01 Calls]
   abbrev pub stepping : ℕ → ℕ → Machine → StepCall
-  stepping level vector x = step-call w (x .window) (x .slots) (x .memory) level vector (x .journal) (x .mark)
+  stepping level vector x = step-call w (x .board) (x .slots) (x .memory) level vector (x .journal) (x .mark)
 
   -- a run of a machine  [01 Calls, Run]
   abbrev pub running-on : ℕ → ℕ → Machine → RunCall
-  running-on budget stop x = run-call w (x .window) (x .slots) (x .memory) budget stop (x .journal) (x .mark)
+  running-on budget stop x = run-call w (x .board) (x .slots) (x .memory) budget stop (x .journal) (x .mark)
 
   -- the machine after a call: what the next call is given  [00 demand 3]
   unfoldable pub act : Call → Machine → Machine
   act (step-of level vector) x =
       let c = stepping level vector x in
-      record { window = x .window; slots = c .s; memory = c .m; journal = c .j; mark = c .a .mark }
+      record { board = x .board; slots = c .s; memory = c .m; journal = c .j; mark = c .a .mark }
   act (run-of budget stop) x =
       let c = running-on budget stop x in
-      record { window = x .window; slots = c .s; memory = c .m; journal = c .j; mark = c .a .mark }
+      record { board = x .board; slots = c .s; memory = c .m; journal = c .j; mark = c .a .mark }
   act undo-once x =
       let c = undoing x in
-      record { window = x .window; slots = c .s; memory = c .m; journal = x .journal; mark = c .a .mark }
+      record { board = x .board; slots = c .s; memory = c .m; journal = x .journal; mark = c .a .mark }
 
   -- the number of a call's answer  [01 Calls]
   abbrev pub number-told : Call → Machine → ℕ
@@ -127,28 +127,28 @@ module _ {X : Type 0} (k : Calls X) where
 
 -- ---- steps taken alone: by one-step and the length of its record only
 
--- state, memory and mark, and the window through which the steps are taken  [00 demand 3] [K7]
+-- state, memory and mark, and the board, window and ROM, with which the steps are taken  [00 demand 3] [K7] [K10]
 pub record Seen : Type 0 where
-  pub window : Window
+  pub board : Board
   pub slots : List ℕ
   pub memory : List ℕ
   pub mark : ℕ
 
 -- what demand 3 compares of a machine  [00 demand 3]
 abbrev pub seen : Machine → Seen
-seen x = record { window = x .window; slots = x .slots; memory = x .memory; mark = x .mark }
+seen x = record { board = x .board; slots = x .slots; memory = x .memory; mark = x .mark }
 
 -- the record of one step  [01 The journal]
 unfoldable pub record-after : Request → Seen → List ℕ
 record-after r a =
-    let t = one-step (a .window) (a .slots) (a .memory) (r .level) (r .vector) in
+    let t = one-step (a .board) (a .slots) (a .memory) (r .level) (r .vector) in
     step-record (a .slots) (t .s) (a .memory) (t .m)
 
 -- one step by the definition of demand 2; the mark grows by its record  [00 demand 2] [00 demand 3]
 unfoldable pub one-more : Request → Seen → Seen
 one-more r a =
-    let t = one-step (a .window) (a .slots) (a .memory) (r .level) (r .vector) in
-    record { window = a .window; slots = t .s; memory = t .m; mark = a .mark + length (record-after r a) }
+    let t = one-step (a .board) (a .slots) (a .memory) (r .level) (r .vector) in
+    record { board = a .board; slots = t .s; memory = t .m; mark = a .mark + length (record-after r a) }
 
 -- the steps of a list, the last first, taken alone from the start  [00 demand 3]
 abbrev pub taken-alone : List Request → Seen → Seen
@@ -158,4 +158,4 @@ taken-alone (r ∷ rs) a = one-more r (taken-alone rs a)
 -- the sum of the clocks of n steps with level 0, taken alone, one after the other  [K2]
 abbrev pub clocks-alone : ℕ → Seen → ℕ
 clocks-alone zero a = 0
-clocks-alone (suc n) a = step-clocks (a .window) (a .slots) (a .memory) 0 0 + clocks-alone n (one-more (record { level = 0; vector = 0 }) a)
+clocks-alone (suc n) a = step-clocks (a .board) (a .slots) (a .memory) 0 0 + clocks-alone n (one-more (record { level = 0; vector = 0 }) a)

@@ -22,11 +22,11 @@ pub data LeftOver (x : Machine) (rest : List ℕ) : Type 0 where
   but-the-oldest : (olds : List Row) (k : ℕ) → rows-of (length (x .memory)) (x .journal) (x .mark) ≡ rows olds
       → rest ≡ rows-bytes (drop k olds) → LeftOver x rest
 
--- From x₀, where the steps rs stand: x has the window, the state and the memory of these steps taken alone; below its mark are, after what
+-- From x₀, where the steps rs stand: x has the board, the state and the memory of these steps taken alone; below its mark are, after what
 -- is left from before the start, the records of the last `kept` of them; and nothing is left from before once one of theirs is dropped.
 -- [00 demand 3] [K5] [K7]
 pub record KeptRecords (x₀ x : Machine) (rs : List Request) : Type 0 where
-  pub window : x .window ≡ taken-alone rs (seen x₀) .window
+  pub board : x .board ≡ taken-alone rs (seen x₀) .board
   pub slots : x .slots ≡ taken-alone rs (seen x₀) .slots
   pub memory : x .memory ≡ taken-alone rs (seen x₀) .memory
   pub kept : ℕ

@@ -1,19 +1,20 @@
 -- Refusals.antt - the tables of [01 Calls]: for each call the numbers that it can give, in order, and when each applies; a run's reasons.
 -- Not here: what a call gives back (Calls.antt).
--- Laws: proofs/RefusalLaws.antt, proofs/FormedLaws.antt, proofs/RunLaws.antt.  Source: [01 Calls and what they give back], [K5], [K7].
+-- Laws: proofs/RefusalLaws.antt, proofs/FormedLaws.antt, proofs/RunLaws.antt.  Source: [01 Calls and what they give back], [K5], [K7], [K10].
 use Prim.Native.Nat.{ℕ, _-_, _%_, _<_}
 use mathlib.Core.Path.{_≡_}
 use mathlib.Core.Bool.{false}
 use mathlib.Core.List.{List, [], _∷_}
 use lib.ListN.{length}
-use Rattle.codes.specs.Codes.{Stopped, Halted, LeastMemory, MostMemory, TopLevel, MostSteps}
-use Rattle.bus.specs.declared.Window.{Window}
+use Rattle.codes.specs.Codes.{Stopped, Halted, LeastMemory, MostMemory, RomStart, MostRom, TopLevel, MostSteps}
+use Rattle.bus.specs.Bus.{Board}
 use Rattle.bank.specs.Bank.{pc-of, sr-of, mode-of}
 use Rattle.record.specs.Limits.{longest-record, valid-status}
 use Rattle.undo.specs.Undo.{none, well-formed}
 use Rattle.oldest.specs.Room.{torn, rows-of}
 use Rattle.calls.specs.declared.Manner.{Manner}
 use Rattle.calls.specs.declared.Manner.the-variants.{Dropping, Keeping}
+use Rattle.calls.specs.Calls.{window-end}
 
 -- a line of a table: a number, and when it applies  [01 Calls, table]
 pub record Line : Type 1 where
@@ -42,10 +43,16 @@ pub data BadState (s : List ℕ) : Type 0 where
   stray-bit : valid-status (sr-of s) ≡ false → BadState s
   no-mode : Halted < mode-of s → BadState s
 
--- lo is above hi, or hi above the memory's length  [K7]
-pub data BadWindow (win : Window) (m : List ℕ) : Type 0 where
-  turned-round : win .hi < win .lo → BadWindow win m
-  past-memory : length m < win .hi → BadWindow win m
+-- the ROM's length is odd or above 1,048,576, or there is a ROM and memory is longer than 15,728,640, where it begins  [K10]
+pub data BadRom (rom m : List ℕ) : Type 0 where
+  odd-rom : length rom % 2 ≡ 1 → BadRom rom m
+  long-rom : MostRom < length rom → BadRom rom m
+  no-place : 0 < length rom → RomStart < length m → BadRom rom m
+
+-- lo is above hi, or hi above the end of memory, or of the ROM where there is one  [K7] [K10]
+pub data BadWindow (board : Board) (m : List ℕ) : Type 0 where
+  turned-round : board .window .hi < board .window .lo → BadWindow board m
+  past-end : window-end (board .rom) m < board .window .hi → BadWindow board m
 
 -- a memory that does not fit: refusal 1  [01 Calls, table]
 abbrev pub memory-line : List ℕ → Line
@@ -55,13 +62,17 @@ memory-line m = record { number = 1; applies = BadMemory m }
 abbrev pub state-line : List ℕ → Line
 state-line s = record { number = 2; applies = BadState s }
 
--- a window that does not fit: refusal 10  [K7]
-abbrev pub window-line : Window → List ℕ → Line
-window-line win m = record { number = 10; applies = BadWindow win m }
+-- a ROM that does not fit, or memory beside it: refusal 12  [K10]
+abbrev pub rom-line : List ℕ → List ℕ → Line
+rom-line rom m = record { number = 12; applies = BadRom rom m }
 
--- the lines of step, run and undo that come first: 1, 2 and 10  [01 Calls, table] [K7]
-abbrev pub first-lines : Window → List ℕ → List ℕ → List Line → List Line
-first-lines win s m ls = memory-line m ∷ state-line s ∷ window-line win m ∷ ls
+-- a window that does not fit: refusal 10  [K7]
+abbrev pub window-line : Board → List ℕ → Line
+window-line board m = record { number = 10; applies = BadWindow board m }
+
+-- the lines of step, run and undo that come first: 1, 12, 2 and 10  [01 Calls, table] [K7] [K10]
+abbrev pub first-lines : Board → List ℕ → List ℕ → List Line → List Line
+first-lines board s m ls = memory-line m ∷ rom-line (board .rom) m ∷ state-line s ∷ window-line board m ∷ ls
 
 -- a mark past the journal's end: refusal 4  [01 Calls, table]
 abbrev pub mark-line : List ℕ → ℕ → Line
@@ -82,28 +93,28 @@ abbrev pub when-dropping : Manner → Line → List Line → List Line
 when-dropping Dropping l ls = l ∷ ls
 when-dropping Keeping l ls = ls
 
--- reset gives 1  [01 Calls, table]
-abbrev pub reset-table : List ℕ → List Line
-reset-table m = memory-line m ∷ []
+-- reset gives 1 and 12  [01 Calls, table] [K10]
+abbrev pub reset-table : List ℕ → List ℕ → List Line
+reset-table m rom = memory-line m ∷ rom-line rom m ∷ []
 
--- step gives 1, 2, 10 and 3 to 6, and 8 where it may drop records  [01 Calls, table] [K5] [K7]
-abbrev pub step-table : Manner → Window → List ℕ → List ℕ → ℕ → List ℕ → ℕ → List Line
-step-table w win s m level j mark =
-    first-lines win s m
+-- step gives 1, 12, 2, 10 and 3 to 6, and 8 where it may drop records  [01 Calls, table] [K5] [K7] [K10]
+abbrev pub step-table : Manner → Board → List ℕ → List ℕ → ℕ → List ℕ → ℕ → List Line
+step-table w board s m level j mark =
+    first-lines board s m
     (record { number = 3; applies = TopLevel < level }
     ∷ mark-line j mark
     ∷ record { number = 5; applies = NoRoom w j mark }
     ∷ record { number = 6; applies = mode-of s ≡ Halted }
     ∷ when-dropping w (record { number = 8; applies = TornWay (length m) j mark }) [])
 
--- run gives 1, 2, 10, 3 and 4, in either manner  [01 Calls, table] [K7]
-abbrev pub run-table : Window → List ℕ → List ℕ → ℕ → List ℕ → ℕ → List Line
-run-table win s m budget j mark = first-lines win s m (record { number = 3; applies = MostSteps < budget } ∷ mark-line j mark ∷ [])
+-- run gives 1, 12, 2, 10, 3 and 4, in either manner  [01 Calls, table] [K7] [K10]
+abbrev pub run-table : Board → List ℕ → List ℕ → ℕ → List ℕ → ℕ → List Line
+run-table board s m budget j mark = first-lines board s m (record { number = 3; applies = MostSteps < budget } ∷ mark-line j mark ∷ [])
 
--- undo gives 1, 2, 10, 4, 7 and 8; what well formed means, clause by clause, is Formed of undo (undo-gives-8)  [01 Calls, table] [K7]
-abbrev pub undo-table : Window → List ℕ → List ℕ → List ℕ → ℕ → List Line
-undo-table win s m j mark =
-    first-lines win s m
+-- undo gives 1, 12, 2, 10, 4, 7 and 8; what well formed means, clause by clause, is Formed of undo (undo-gives-8)  [01 Calls, table] [K7] [K10]
+abbrev pub undo-table : Board → List ℕ → List ℕ → List ℕ → ℕ → List Line
+undo-table board s m j mark =
+    first-lines board s m
     (mark-line j mark
     ∷ record { number = 7; applies = mark ≡ 0 }
     ∷ record { number = 8; applies = well-formed s m j mark ≡ none }

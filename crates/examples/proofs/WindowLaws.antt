@@ -21,7 +21,7 @@ use Rattle.execute.specs.Dispatch as Dispatch
 use Rattle.step.specs.Steps as Steps
 use Rattle.examples.specs.WindowRows.{WindowRow, window-rows}
 
-pub window-rows-hold : map (λ (e : WindowRow). Steps.one-step (e .window) (e .slots) (e .memory) (e .level) (e .vector)) window-rows
+pub window-rows-hold : map (λ (e : WindowRow). Steps.one-step (e .board) (e .slots) (e .memory) (e .level) (e .vector)) window-rows
     ≡ map (λ (e : WindowRow). e .left) window-rows
 unfolding Bits.iter Bits.by-size Bits.sign-byte Bits.sign-word
     Flags.flags

@@ -6,7 +6,7 @@ use mathlib.Core.Path.{_≡_}
 use mathlib.Core.List.{List, [], _∷_, _++_, map}
 use lib.ListN.{length, set, replicate, drop}
 use Rattle.flags.specs.declared.Flagged.{Flagged}
-use Rattle.bus.specs.declared.Window.{Window}
+use Rattle.bus.specs.Bus.{Board}
 use Rattle.numbers.specs.Number.{number-bytes}
 use Rattle.numbers.specs.Examples.{NumberRow, number-rows}
 use Rattle.record.specs.Change.{step-record}
@@ -23,9 +23,9 @@ slots d0 a0 pc sr = d0 ∷ 0 ∷ 0 ∷ 0 ∷ 0 ∷ 0 ∷ 0 ∷ 0 ∷ a0 ∷ 0 �
 abbrev pub memory : ℕ → List ℕ
 memory w = set (set (replicate 1024 0) 0x200 (w / 256)) 0x201 (w % 256)
 
--- the window that hides nothing of a memory  [K7]
-abbrev pub everything : List ℕ → Window
-everything m = record { lo = 0; hi = length m }
+-- no ROM, and the window that hides nothing of a memory  [K7] [K10]
+abbrev pub everything : List ℕ → Board
+everything m = record { window = record { lo = 0; hi = length m }; rom = [] }
 
 -- an example: a number and its bytes; a result; a byte with its flags; one step from slots over a word, with the slots after and its
 -- record; one step that takes an exception, with its event and the frame on the stack  [ours]

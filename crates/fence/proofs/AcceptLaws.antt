@@ -30,23 +30,23 @@ use Rattle.fence.specs.Rows.{answer-to, next}
 -- ---- a call on a machine
 module _ (w : Manner) (q : Request) (x : Machine) where
   abbrev pub number-of : ℕ
-  number-of = step-number w (x .window) (x .slots) (x .memory) (q .level) (x .journal) (x .mark)
+  number-of = step-number w (x .board) (x .slots) (x .memory) (q .level) (x .journal) (x .mark)
 
   -- the step itself
   abbrev pub one : Stepped
-  one = one-step (x .window) (x .slots) (x .memory) (q .level) (q .vector)
+  one = one-step (x .board) (x .slots) (x .memory) (q .level) (q .vector)
 
   abbrev pub record-of-it : List ℕ
   record-of-it = step-record (x .slots) (one .s) (x .memory) (one .m)
 
   pub refused-answer : (answer-to w q x .number ≡ 0 → ⊥)
       → answer-to w q x ≡ record { number = answer-to w q x .number; event = NoEvent; mark = x .mark; clocks = 0; moved = 0; dropped = 0 }
-  refused-answer h = ap (λ (c : StepCall). c .a) (step-refused w (x .window) (x .slots) (x .memory) (q .level) (x .journal) (x .mark) (q .vector) h)
+  refused-answer h = ap (λ (c : StepCall). c .a) (step-refused w (x .board) (x .slots) (x .memory) (q .level) (x .journal) (x .mark) (q .vector) h)
 
   module _ (h : answer-to w q x .number ≡ 0) where
     pub accepted-call : stepping w (q .level) (q .vector) x
-        ≡ step-with-room w (x .window) (x .slots) (x .memory) (q .level) (q .vector) (x .journal) (x .mark)
-    accepted-call = step-accepted w (x .window) (x .slots) (x .memory) (q .level) (x .journal) (x .mark) (q .vector) h
+        ≡ step-with-room w (x .board) (x .slots) (x .memory) (q .level) (q .vector) (x .journal) (x .mark)
+    accepted-call = step-accepted w (x .board) (x .slots) (x .memory) (q .level) (x .journal) (x .mark) (q .vector) h
 
     pub event-told : answer-to w q x .event ≡ one .event
     unfolding step-with-room step-taken
@@ -117,7 +117,7 @@ module _ (w : Manner) (q : Request) (x : Machine) (h : answer-to w q x .number �
 
   plain : Plain w (length (x .memory)) (x .journal) (x .mark)
   plain =
-      let i = step-inv w (x .window) (x .slots) (x .memory) (q .level) (x .journal) (x .mark) (step-number-zero w (q .level) (q .vector) x h) in
+      let i = step-inv w (x .board) (x .slots) (x .memory) (q .level) (x .journal) (x .mark) (step-number-zero w (q .level) (q .vector) x h) in
       plain-by w (length (x .memory)) (x .journal) (x .mark) (i .3) (i .4) (i .6) none-gone
 
   pub room-free : longest-record ≤ length (x .journal) - x .mark
@@ -128,20 +128,20 @@ module _ (w : Manner) (q : Request) (x : Machine) (h : answer-to w q x .number �
         number = 0;
         event = one w q x .event;
         mark = x .mark + length (record-of-it w q x);
-        clocks = step-clocks (x .window) (x .slots) (x .memory) (q .level) (q .vector);
+        clocks = step-clocks (x .board) (x .slots) (x .memory) (q .level) (q .vector);
         moved = 0;
         dropped = 0;
       }
   unfolding step-with-room step-taken
   plain-told =
       ap (λ (c : StepCall). c .a) (accepted-call w q x h)
-      ∙ ap (λ (r : RoomCall). in-room (r .a) (step-taken (x .window) (x .slots) (x .memory) (q .level) (q .vector) (r .j) (r .a .mark)) .a)
+      ∙ ap (λ (r : RoomCall). in-room (r .a) (step-taken (x .board) (x .slots) (x .memory) (q .level) (q .vector) (r .j) (r .a .mark)) .a)
       (plain .is)
 
   abbrev pub plain-machine : Machine
   plain-machine =
       record {
-        window = x .window;
+        board = x .board;
         slots = one w q x .s;
         memory = one w q x .m;
         journal = written (x .journal) (x .mark) (record-of-it w q x);
@@ -149,7 +149,7 @@ module _ (w : Manner) (q : Request) (x : Machine) (h : answer-to w q x .number �
       }
 
   abbrev there-is : RoomCall → Seen
-  there-is r = record { window = x .window; slots = x .slots; memory = x .memory; mark = r .a .mark }
+  there-is r = record { board = x .board; slots = x .slots; memory = x .memory; mark = r .a .mark }
 
   pub plain-next : next w q x ≡ plain-machine
   unfolding one-more record-after

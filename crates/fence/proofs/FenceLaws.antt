@@ -18,7 +18,7 @@ use lib.Dec.{ltb, eqb}
 use borrow.Author.Tests.{eqb-true, eqb-false}
 use Rattle.codes.specs.Codes.{NoEvent, HaltEvent}
 use Rattle.bits.specs.Bits.{pick}
-use Rattle.bus.specs.declared.Window.{Window}
+use Rattle.bus.specs.Bus.{Board}
 use Rattle.bank.specs.Bank.{sr-of, supervisor}
 use Rattle.numbers.specs.Number.{written}
 use Rattle.numbers.proofs.WrittenLaws.{length-written, take-written}
@@ -39,7 +39,7 @@ use Rattle.fence.proofs.AcceptLaws.{number-of, one, record-of-it, refus
 use Rattle.fence.proofs.RecordLaws.{left-next, same-record}
 
 -- ---- one call: what is kept of a machine
-pub window-stays : (w : Manner) (q : Request) (x : Machine) → next w q x .window ≡ x .window
+pub window-stays : (w : Manner) (q : Request) (x : Machine) → next w q x .board ≡ x .board
 unfolding act
 window-stays w q x = refl
 
@@ -59,18 +59,18 @@ module _ (w : Manner) (q : Request) (x : Machine) (f : Fit x) where
   left-by true h u e =
       let z = eqb-true (answer-to w q x .number) 0 h in
       subst (LeftMachine x) (sym (act-step w q x z))
-      (left-next (x .window) (x .slots) (x .memory) (step-valid w (q .level) (q .vector) x f z) u (q .level) (q .vector)
+      (left-next (x .board) (x .slots) (x .memory) (step-valid w (q .level) (q .vector) x f z) u (q .level) (q .vector)
       (sym (event-told w q x z) ∙ e))
   left-by false h u e =
       subst (LeftMachine x) (sym (act-step-refused w (q .level) (q .vector) x (eqb-false (answer-to w q x .number) 0 h)))
-      (left-none (x .window) (x .slots) (x .memory))
+      (left-none (x .board) (x .slots) (x .memory))
 
   left-call : supervisor (sr-of (x .slots)) ≡ false → answer-to w q x .event ≡ NoEvent → LeftMachine x (next w q x)
   left-call u e = left-by (eqb (answer-to w q x .number) 0) refl u e
 
 -- ---- theorem 1
-module _ (win : Window) (s m t n o p : List ℕ) (a : Left win s m t n) where
-  left-then : Left win t n o p → Left win s m o p
+module _ (board : Board) (s m t n o p : List ℕ) (a : Left board s m t n) where
+  left-then : Left board t n o p → Left board s m o p
   left-then b =
       record {
         system =
@@ -89,18 +89,18 @@ module _ (win : Window) (s m t n o p : List ℕ) (a : Left win s m t n) where
 
 pub user-calls-leave : (w : Manner) (qs : List Request) (x : Machine) → Fit x → supervisor (sr-of (x .slots)) ≡ false → AllCalm w qs x
     → LeftMachine x (after-row w qs x)
-user-calls-leave w [] x f u c = left-none (x .window) (x .slots) (x .memory)
+user-calls-leave w [] x f u c = left-none (x .board) (x .slots) (x .memory)
 user-calls-leave w (q ∷ qs) x f u c =
     let y = next w q x in
     let z = after-row w qs y in
     let a = left-call w q x f u (c .0) in
-    let b = user-calls-leave w qs y (fit-next w q x f) (still-user (x .window) (x .slots) (x .memory) (y .slots) (y .memory) [] [] a u) (c .1) in
-    left-then (x .window) (x .slots) (x .memory) (y .slots) (y .memory) (z .slots) (z .memory) a
-    (subst (λ (win : Window). Left win (y .slots) (y .memory) (z .slots) (z .memory)) (window-stays w q x) b)
+    let b = user-calls-leave w qs y (fit-next w q x f) (still-user (x .board) (x .slots) (x .memory) (y .slots) (y .memory) [] [] a u) (c .1) in
+    left-then (x .board) (x .slots) (x .memory) (y .slots) (y .memory) (z .slots) (z .memory) a
+    (subst (λ (board : Board). Left board (y .slots) (y .memory) (z .slots) (z .memory)) (window-stays w q x) b)
 
 -- ---- refusals
 abbrev tests : Manner → Request → Machine → ℕ → ℕ
-tests w q x l = step-tests w (x .window) (x .slots) (x .memory) (q .level) (x .journal) (x .mark) l
+tests w q x l = step-tests w (x .board) (x .slots) (x .memory) (q .level) (x .journal) (x .mark) l
 
 module _ (x y : Machine) (h : AlikeMachines x y) where
   same-room : (w : Manner) → no-room w (x .journal) (x .mark) ≡ no-room w (y .journal) (y .mark)
@@ -110,24 +110,24 @@ module _ (x y : Machine) (h : AlikeMachines x y) where
   same-tests : (w : Manner) (q : Request) (l : ℕ) → tests w q x l ≡ tests w q y l
   unfolding step-tests first-tests
   same-tests w q l =
-      let sr = same-sr (x .window) (x .slots) (y .slots) (x .memory) (y .memory) (h .states) in
-      let mode = same-mode (x .window) (x .slots) (y .slots) (x .memory) (y .memory) (h .states) in
-      cc (sr, mode, same-room w, h .states .memory .long, h .window, h .journal, h .mark)
+      let sr = same-sr (x .board) (x .slots) (y .slots) (x .memory) (y .memory) (h .states) in
+      let mode = same-mode (x .board) (x .slots) (y .slots) (x .memory) (y .memory) (h .states) in
+      cc (sr, mode, same-room w, h .states .memory .long, h .board, h .journal, h .mark)
 
 -- two machines are alike either way round
 pub alike-back : (x y : Machine) → AlikeMachines x y → AlikeMachines y x
 alike-back x y h =
     let a = h .states in
     record {
-      window = sym (h .window);
+      board = sym (h .board);
       states =
           record {
-            user = user-too (x .window) (x .slots) (y .slots) (x .memory) (y .memory) a;
+            user = user-too (x .board) (x .slots) (y .slots) (x .memory) (y .memory) a;
             slots = sym (a .slots);
             memory =
                 record {
                   long = sym (a .memory .long);
-                  bytes = λ i l u. sym (a .memory .bytes i (rw (h .window) l) (rw (h .window) u));
+                  bytes = λ i l u. sym (a .memory .bytes i (rw (h .board) l) (rw (h .board) u));
                 };
           };
       journal = sym (h .journal);
@@ -144,7 +144,7 @@ module _ (w : Manner) (q : Request) where
   torn-of x = torn-way w (length (x .memory)) (x .journal) (x .mark)
 
   told : (x : Machine) → answer-to w q x .number ≡ number-of w q x
-  told x = step-call-number w (x .window) (x .slots) (x .memory) (q .level) (x .journal) (x .mark) (q .vector)
+  told x = step-call-number w (x .board) (x .slots) (x .memory) (q .level) (x .journal) (x .mark) (q .vector)
 
   number-by : (x : Machine) (b : Bool) → torn-of x ≡ b
       → number-of w q x ≡ tests w q x (pick b 8 0)
@@ -163,7 +163,7 @@ module _ (w : Manner) (q : Request) where
           absurd (omega (arith, f, torn-short w (length (x .memory)) (x .journal) (x .mark) a, h .journal, h .mark))
       go false k =
           number-by x true a
-          ∙ tests-stopped w (x .window) (x .slots) (x .memory) (q .level) (x .journal) (x .mark) 8 (eqb-false (tests w q x 0) 0 k)
+          ∙ tests-stopped w (x .board) (x .slots) (x .memory) (q .level) (x .journal) (x .mark) 8 (eqb-false (tests w q x 0) 0 k)
           ∙ same-tests x y h w q 0 ∙ sym (number-by y false b)
 
   pub same-number : (x y : Machine) → AlikeMachines x y → answer-to w q x .dropped ≡ 0 → answer-to w q y .dropped ≡ 0
@@ -185,11 +185,11 @@ module _ (w : Manner) (q : Request) where
 -- what a step that drops nothing leaves of the journal
 module _ (w : Manner) (q : Request) (x : Machine) (f : Fit x) (h : answer-to w q x .number ≡ 0) (e : answer-to w q x .dropped ≡ 0) where
   inside : x .mark ≤ length (x .journal)
-  inside = step-inv w (x .window) (x .slots) (x .memory) (q .level) (x .journal) (x .mark) (step-number-zero w (q .level) (q .vector) x h) .3
+  inside = step-inv w (x .board) (x .slots) (x .memory) (q .level) (x .journal) (x .mark) (step-number-zero w (q .level) (q .vector) x h) .3
 
   roomy : x .mark + length (record-of-it w q x) ≤ length (x .journal)
   roomy =
-      let r = record-room (x .window) (x .slots) (x .memory) (q .level) (q .vector) (step-valid w (q .level) (q .vector) x f h) in
+      let r = record-room (x .board) (x .slots) (x .memory) (q .level) (q .vector) (step-valid w (q .level) (q .vector) x f h) in
       omega (arith, r, room-free w q x h e, inside)
 
   record-is : record-left w q x ≡ record-of-it w q x
@@ -209,13 +209,13 @@ pub record SameCall (w : Manner) (q : Request) (x y : Machine) : Type 0 where
   pub alike : AlikeMachines (next w q x) (next w q y)
 
 -- a machine with another window
-abbrev pub in-window : Window → Machine → Machine
-in-window win y = record { window = win; slots = y .slots; memory = y .memory; journal = y .journal; mark = y .mark }
+abbrev pub in-window : Board → Machine → Machine
+in-window board y = record { board = board; slots = y .slots; memory = y .memory; journal = y .journal; mark = y .mark }
 
 -- the second machine with the window of the first
 module _ (w : Manner) (q : Request) (x z : Machine) where
   abbrev y : Machine
-  y = in-window (x .window) z
+  y = in-window (x .board) z
 
   module _ (h : AlikeMachines x y) (fx : Fit x) (fy : Fit y) (e : answer-to w q x .event ≡ NoEvent) (dx : answer-to w q x .dropped ≡ 0)
       (dy : answer-to w q y .dropped ≡ 0) where
@@ -226,26 +226,26 @@ module _ (w : Manner) (q : Request) (x z : Machine) where
     same-by true g =
         let k = eqb-true (answer-to w q x .number) 0 g in
         let l = sym told-too ∙ k in
-        let win = x .window in
+        let board = x .board in
         let s = x .slots in
         let t = y .slots in
         let m = x .memory in
         let n = y .memory in
         let a = h .states in
         let quiet = sym (event-told w q x k) ∙ e in
-        let quiet-too = same-event win s t m n a (q .level) (q .vector) quiet in
-        let clocks = same-clocks win s t m n a (q .level) (q .vector) quiet in
+        let quiet-too = same-event board s t m n a (q .level) (q .vector) quiet in
+        let clocks = same-clocks board s t m n a (q .level) (q .vector) quiet in
         let vx = step-valid w (q .level) (q .vector) x fx k in
         let vy = step-valid w (q .level) (q .vector) y fy l in
-        let r = same-record win s t m n vx vy a (q .level) (q .vector) quiet in
+        let r = same-record board s t m n vx vy a (q .level) (q .vector) quiet in
         record {
           answer = cc (plain-told w q x k dx, plain-told w q y l dy, quiet, quiet-too, clocks, r, h .mark);
           written = record-is w q x fx k dx ∙ r ∙ sym (record-is w q y fy l dy);
           alike =
               subst₂ AlikeMachines (sym (plain-next w q x k dx)) (sym (plain-next w q y l dy))
               (record {
-                window = refl;
-                states = alike-next win s t m n a (q .level) (q .vector) quiet;
+                board = refl;
+                states = alike-next board s t m n a (q .level) (q .vector) quiet;
                 journal =
                     length-written (x .journal) (x .mark) (record-of-it w q x) (roomy w q x fx k dx)
                     ∙ h .journal
@@ -266,7 +266,7 @@ module _ (w : Manner) (q : Request) (x z : Machine) where
 pub same-call : (w : Manner) (q : Request) (x y : Machine) → AlikeMachines x y → Fit x → Fit y → answer-to w q x .event ≡ NoEvent
     → answer-to w q x .dropped ≡ 0 → answer-to w q y .dropped ≡ 0 → SameCall w q x y
 same-call w q x y h fx fy e dx dy =
-    let g : in-window (x .window) y ≡ y = ap (λ (win : Window). in-window win y) (h .window) in
+    let g : in-window (x .board) y ≡ y = ap (λ (board : Board). in-window board y) (h .board) in
     subst (λ (z : Machine). AlikeMachines x z → Fit z → answer-to w q z .dropped ≡ 0 → SameCall w q x z) g
     (λ a f d. same-by w q x y a fx f e dx d (eqb (answer-to w q x .number) 0) refl) h fy dy
 
@@ -294,10 +294,10 @@ same-vector w q x y h dx dy = go (eqb (answer-to w q x .number) 0) refl
     go true c p r =
         let k = eqb-true (answer-to w q x .number) 0 c in
         let l = sym (same-told w q x y h dx dy) ∙ k in
-        let g : one w q y .event ≡ one-step (x .window) (y .slots) (y .memory) (q .level) (q .vector) .event =
-        ap (λ (win : Window). one-step win (y .slots) (y .memory) (q .level) (q .vector) .event) (sym (h .window)) in
+        let g : one w q y .event ≡ one-step (x .board) (y .slots) (y .memory) (q .level) (q .vector) .event =
+        ap (λ (board : Board). one-step board (y .slots) (y .memory) (q .level) (q .vector) .event) (sym (h .board)) in
         event-told w q x k
-        ∙ same-step-vector (x .window) (x .slots) (y .slots) (x .memory) (y .memory) (h .states) (q .level) (q .vector)
+        ∙ same-step-vector (x .board) (x .slots) (y .slots) (x .memory) (y .memory) (h .states) (q .level) (q .vector)
         (λ e. p (event-told w q x k ∙ e)) (λ e. r (event-told w q y l ∙ g ∙ e))
         ∙ sym g ∙ sym (event-told w q y l)
     go false c p r =

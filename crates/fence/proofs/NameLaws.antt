@@ -10,7 +10,7 @@ use lib.Dec.{ltb, eqb}
 use borrow.Author.Tests.{eqb-true, ltb-false}
 use Rattle.codes.specs.Codes.{Running, Mask, TopLevel, TraceVector, NoVector, NoEvent, HaltEvent, NoWrite, event-of}
 use Rattle.bits.specs.Bits.{pick, minus}
-use Rattle.bus.specs.declared.Window.{Window}
+use Rattle.bus.specs.Bus.{Board}
 use Rattle.bus.specs.Bus.{all-of, fault-vector}
 use Rattle.plan.specs.declared.Plan.{Plan}
 use Rattle.bank.specs.Bank.{ssp-of, pc-of, sr-of, mode-of, tracing, bank, settle}
@@ -157,42 +157,42 @@ module _ (s m r : List ℕ) (t : Tried) where
 
 -- ---- a step
 -- the attempt of an instruction
-abbrev pub tried : Window → List ℕ → List ℕ → Attempt
-tried win s m = attempt (bank s) (sight win s m) (fresh (pc-of s) (sr-of s))
+abbrev pub tried : Board → List ℕ → List ℕ → Attempt
+tried board s m = attempt (bank s) (sight board s m) (fresh (pc-of s) (sr-of s))
 
 -- whether the request is taken
 abbrev pub interrupted : List ℕ → ℕ → Bool
 interrupted s level = eqb level TopLevel || ltb (sr-of s / Mask % 8) level
 
 -- what a step names: an interrupt's vector, nothing where the machine is stopped, else its instruction's
-abbrev pub step-event : Window → List ℕ → List ℕ → ℕ → ℕ → ℕ
-step-event win s m level vec =
-    pick (interrupted s level) (event-of (vec % 256)) (pick (eqb (mode-of s) Running) (tried-event (tried win s m .t) (tracing (sr-of s))) NoEvent)
+abbrev pub step-event : Board → List ℕ → List ℕ → ℕ → ℕ → ℕ
+step-event board s m level vec =
+    pick (interrupted s level) (event-of (vec % 256)) (pick (eqb (mode-of s) Running) (tried-event (tried board s m .t) (tracing (sr-of s))) NoEvent)
 
-module _ (win : Window) (s m : List ℕ) (level vec : ℕ) where
-  step-interrupts : interrupted s level ≡ true → one-step win s m level vec ≡ exception s m vec (interrupt-sr (sr-of s) level)
+module _ (board : Board) (s m : List ℕ) (level vec : ℕ) where
+  step-interrupts : interrupted s level ≡ true → one-step board s m level vec ≡ exception s m vec (interrupt-sr (sr-of s) level)
   unfolding one-step interrupt
   step-interrupts h = cc
 
-  pub step-stands : interrupted s level ≡ false → eqb (mode-of s) Running ≡ false → one-step win s m level vec ≡ still s m
+  pub step-stands : interrupted s level ≡ false → eqb (mode-of s) Running ≡ false → one-step board s m level vec ≡ still s m
   unfolding one-step
   step-stands h k = cc
 
   pub step-works : interrupted s level ≡ false → eqb (mode-of s) Running ≡ true
-      → one-step win s m level vec ≡ conclude s m (tried win s m .r) (tried win s m .t)
+      → one-step board s m level vec ≡ conclude s m (tried board s m .r) (tried board s m .t)
   unfolding one-step instruction
   step-works h k = cc
 
   step-by : (b c : Bool) → interrupted s level ≡ b → eqb (mode-of s) Running ≡ c
-      → Or (pick b (event-of (vec % 256)) (pick c (tried-event (tried win s m .t) (tracing (sr-of s))) NoEvent))
-      (one-step win s m level vec .event)
+      → Or (pick b (event-of (vec % 256)) (pick c (tried-event (tried board s m .t) (tracing (sr-of s))) NoEvent))
+      (one-step board s m level vec .event)
   step-by true c h k =
       subst (λ (x : Stepped). Or (event-of (vec % 256)) (x .event)) (sym (step-interrupts h)) (exception-or s m vec (interrupt-sr (sr-of s) level))
   step-by false true h k =
-      subst (λ (x : Stepped). Or (tried-event (tried win s m .t) (tracing (sr-of s))) (x .event)) (sym (step-works h k))
-      (conclude-by s m (tried win s m .r) (tried win s m .t) (eqb (tried win s m .t .p .flow .bad) 0) refl)
+      subst (λ (x : Stepped). Or (tried-event (tried board s m .t) (tracing (sr-of s))) (x .event)) (sym (step-works h k))
+      (conclude-by s m (tried board s m .r) (tried board s m .t) (eqb (tried board s m .t .p .flow .bad) 0) refl)
   step-by false false h k = this (ap (λ (x : Stepped). x .event) (step-stands h k))
 
   -- the event of a step is the one that it names, or a halt
-  pub step-names : Or (step-event win s m level vec) (one-step win s m level vec .event)
+  pub step-names : Or (step-event board s m level vec) (one-step board s m level vec .event)
   step-names = step-by (interrupted s level) (eqb (mode-of s) Running) refl refl

@@ -13,7 +13,7 @@ use lib.Dec.{eqb}
 use Rattle.codes.specs.Codes.{Ssp, Pc, Sr, Mode, Usp, Trace, Supervisor, Mask, NoEvent, HaltEvent}
 use Rattle.flags.specs.Flags.{with-ccr}
 use Rattle.bus.specs.declared.Flow.{Flow}
-use Rattle.bus.specs.declared.Window.{Window}
+use Rattle.bus.specs.Bus.{Board}
 use Rattle.bus.specs.Bus.{View, seen-by, next-word}
 use Rattle.plan.specs.declared.Plan.{Plan}
 use Rattle.bank.specs.Bank.{ssp-of, pc-of, sr-of, mode-of, supervisor, long, bank, usp-after, ssp-after, sr-after, settle}
@@ -50,61 +50,61 @@ kept-system a b c e =
     }
 
 -- nothing changed
-pub left-none : (win : Window) (s m : List ℕ) → Left win s m s m
-left-none win s m = record { system = record { trace = refl; super = refl; mask = refl }; ssp = refl; long = refl; outside = λ a out. refl }
+pub left-none : (board : Board) (s m : List ℕ) → Left board s m s m
+left-none board s m = record { system = record { trace = refl; super = refl; mask = refl }; ssp = refl; long = refl; outside = λ a out. refl }
 
 -- ---- what it leaves of memory
-attempt-out : (win : Window) (m : List ℕ) (j : ℕ) (out : win .lo ≤ j → j < win .hi → ⊥) (r : List ℕ) (f : Flow)
-    → eqb (attempt r (seen-by false win m) f .t .p .flow .bad) 0 ≡ true
-    → getD (written-by m (attempt r (seen-by false win m) f .r) (attempt r (seen-by false win m) f .t .p)) j 0 ≡ getD m j 0
+attempt-out : (board : Board) (m : List ℕ) (j : ℕ) (out : board .lo ≤ j → j < board .hi → ⊥) (r : List ℕ) (f : Flow)
+    → eqb (attempt r (seen-by false board m) f .t .p .flow .bad) 0 ≡ true
+    → getD (written-by m (attempt r (seen-by false board m) f .r) (attempt r (seen-by false board m) f .t .p)) j 0 ≡ getD m j 0
 unfolding attempt
-attempt-out win m j out r f h =
-    let v = seen-by false win m in
+attempt-out board m j out r f h =
+    let v = seen-by false board m in
     let o = next-word v f in
     let d = execute r v (o .value) (o .flow) in
-    plan-out win m j out (d .r) (d .p) h
+    plan-out board m j out (d .r) (d .p) h
 
-module _ (win : Window) (s m : List ℕ) (u : supervisor (sr-of s) ≡ false) where
-  user-view : sight win s m ≡ seen-by false win m
-  user-view = ap (λ (b : Bool). seen-by b win m) u
+module _ (board : Board) (s m : List ℕ) (u : supervisor (sr-of s) ≡ false) where
+  user-view : sight board s m ≡ seen-by false board m
+  user-view = ap (λ (b : Bool). seen-by b board m) u
 
-  tried-out : (j : ℕ) (out : win .lo ≤ j → j < win .hi → ⊥) → eqb (tried win s m .t .p .flow .bad) 0 ≡ true
-      → getD (written-by m (tried win s m .r) (tried win s m .t .p)) j 0 ≡ getD m j 0
+  tried-out : (j : ℕ) (out : board .lo ≤ j → j < board .hi → ⊥) → eqb (tried board s m .t .p .flow .bad) 0 ≡ true
+      → getD (written-by m (tried board s m .r) (tried board s m .t .p)) j 0 ≡ getD m j 0
   tried-out j out h =
       let f = fresh (pc-of s) (sr-of s) in
       subst (λ (v : View). eqb (attempt (bank s) v f .t .p .flow .bad) 0 ≡ true
       → getD (written-by m (attempt (bank s) v f .r) (attempt (bank s) v f .t .p)) j 0 ≡ getD m j 0)
-      (sym user-view) (attempt-out win m j out (bank s) f) h
+      (sym user-view) (attempt-out board m j out (bank s) f) h
 
 -- ---- theorem 1, one step
-module _ (win : Window) (s m : List ℕ) (level vector : ℕ) (u : supervisor (sr-of s) ≡ false) (fits : ssp-of s < 2 ^ 32)
-    (same : length (one-step win s m level vector .m) ≡ length m) where
+module _ (board : Board) (s m : List ℕ) (level vector : ℕ) (u : supervisor (sr-of s) ≡ false) (fits : ssp-of s < 2 ^ 32)
+    (same : length (one-step board s m level vector .m) ≡ length m) where
   abbrev LeftAfter : Stepped → Type 0
-  LeftAfter t = length (t .m) ≡ length m → Left win s m (t .s) (t .m)
+  LeftAfter t = length (t .m) ≡ length m → Left board s m (t .s) (t .m)
 
-  left-works : eqb (tried win s m .t .p .flow .bad) 0 ≡ true
-      → LeftAfter (still (settle s (tried win s m .r) (tried win s m .t .p)) (written-by m (tried win s m .r) (tried win s m .t .p)))
+  left-works : eqb (tried board s m .t .p .flow .bad) 0 ≡ true
+      → LeftAfter (still (settle s (tried board s m .r) (tried board s m .t .p)) (written-by m (tried board s m .r) (tried board s m .t .p)))
   left-works b l =
-      let r = tried win s m .r in
-      let p = tried win s m .t .p in
+      let r = tried board s m .r in
+      let p = tried board s m .t .p in
       let e : long (ssp-of s) ≡ ssp-of s = omega (arith, fits) in
       record {
         system = kept-system (sr-of s) (p .flow .sr) (sr-of (settle s r p)) (settled-sr s r p u);
         ssp = settled-ssp s r p u ∙ e;
         long = l;
-        outside = λ a out. tried-out win s m u a out b;
+        outside = λ a out. tried-out board s m u a out b;
       }
 
-  left-by : Quiet win s m level → LeftAfter (one-step win s m level vector)
-  left-by (stands h k) = subst LeftAfter (sym (step-stands win s m level vector h k)) (λ l. left-none win s m)
-  left-by (works h k b c) = subst LeftAfter (sym (works-is win s m level vector h k b c)) (left-works b)
+  left-by : Quiet board s m level → LeftAfter (one-step board s m level vector)
+  left-by (stands h k) = subst LeftAfter (sym (step-stands board s m level vector h k)) (λ l. left-none board s m)
+  left-by (works h k b c) = subst LeftAfter (sym (works-is board s m level vector h k b c)) (left-works b)
 
-  pub left-after : one-step win s m level vector .event ≡ NoEvent
-      → Left win s m (one-step win s m level vector .s) (one-step win s m level vector .m)
-  left-after e = left-by (quiet-of win s m level vector (names-none win s m level vector e)) same
+  pub left-after : one-step board s m level vector .event ≡ NoEvent
+      → Left board s m (one-step board s m level vector .s) (one-step board s m level vector .m)
+  left-after e = left-by (quiet-of board s m level vector (names-none board s m level vector e)) same
 
 -- ---- theorem 2, one step
-module _ (win : Window) (s t m n : List ℕ) (h : Alike win s t m n) where
+module _ (board : Board) (s t m n : List ℕ) (h : Alike board s t m n) where
   pub slot : (i : ℕ) → (i ≡ Ssp → ⊥) → getD s i 0 ≡ getD t i 0
   slot i k = sym (getD-set-other s Ssp i 0 0 k) ∙ ap (λ (l : List ℕ). getD l i 0) (h .slots) ∙ getD-set-other t Ssp i 0 0 k
 
@@ -147,42 +147,42 @@ module _ (win : Window) (s t m n : List ℕ) (h : Alike win s t m n) where
         slot 14 (λ e. omega (arith, e)),
       )
 
-  same-sight : sight win s m ≡ sight win t n
-  same-sight = user-view win s m (h .user) ∙ same-view win m n (h .memory) ∙ sym (user-view win t n user-too)
+  same-sight : sight board s m ≡ sight board t n
+  same-sight = user-view board s m (h .user) ∙ same-view board m n (h .memory) ∙ sym (user-view board t n user-too)
 
   -- an instruction does the same up to its write: operation word, registers, plan with PC, SR, trap and fault, clocks
-  same-tried : tried win s m ≡ tried win t n
+  same-tried : tried board s m ≡ tried board t n
   same-tried = cc (same-bank, same-sight, same-pc, same-sr)
 
   module _ (level vector : ℕ) where
-    same-name : step-event win s m level vector ≡ step-event win t n level vector
+    same-name : step-event board s m level vector ≡ step-event board t n level vector
     same-name = cc (same-tried, same-sr, same-mode)
 
     -- the same exception, unless one of the two halts
-    pub same-step-vector : (one-step win s m level vector .event ≡ HaltEvent → ⊥) → (one-step win t n level vector .event ≡ HaltEvent → ⊥)
-        → one-step win s m level vector .event ≡ one-step win t n level vector .event
-    same-step-vector p q = joined (step-names win s m level vector) (step-names win t n level vector)
+    pub same-step-vector : (one-step board s m level vector .event ≡ HaltEvent → ⊥) → (one-step board t n level vector .event ≡ HaltEvent → ⊥)
+        → one-step board s m level vector .event ≡ one-step board t n level vector .event
+    same-step-vector p q = joined (step-names board s m level vector) (step-names board t n level vector)
       where
-        joined : Or (step-event win s m level vector) (one-step win s m level vector .event)
-            → Or (step-event win t n level vector) (one-step win t n level vector .event)
-            → one-step win s m level vector .event ≡ one-step win t n level vector .event
+        joined : Or (step-event board s m level vector) (one-step board s m level vector .event)
+            → Or (step-event board t n level vector) (one-step board t n level vector .event)
+            → one-step board s m level vector .event ≡ one-step board t n level vector .event
         joined (this a) (this b) = a ∙ same-name ∙ sym b
         joined (halts a) y = absurd (p a)
         joined (this a) (halts b) = absurd (q b)
 
-    module _ (e : one-step win s m level vector .event ≡ NoEvent) where
-      quiet : Quiet win s m level
-      quiet = quiet-of win s m level vector (names-none win s m level vector e)
+    module _ (e : one-step board s m level vector .event ≡ NoEvent) where
+      quiet : Quiet board s m level
+      quiet = quiet-of board s m level vector (names-none board s m level vector e)
 
-      quiet-too : Quiet win t n level
-      quiet-too = quiet-of win t n level vector (sym same-name ∙ names-none win s m level vector e)
+      quiet-too : Quiet board t n level
+      quiet-too = quiet-of board t n level vector (sym same-name ∙ names-none board s m level vector e)
 
       -- the other takes no exception either
-      pub same-event : one-step win t n level vector .event ≡ NoEvent
-      same-event = quiet-event win t n level vector quiet-too
+      pub same-event : one-step board t n level vector .event ≡ NoEvent
+      same-event = quiet-event board t n level vector quiet-too
 
-      pub same-clocks : step-clocks win s m level vector ≡ step-clocks win t n level vector
-      same-clocks = cc (quiet-clocks win s m level vector quiet, quiet-clocks win t n level vector quiet-too, same-tried, same-mode)
+      pub same-clocks : step-clocks board s m level vector ≡ step-clocks board t n level vector
+      same-clocks = cc (quiet-clocks board s m level vector quiet, quiet-clocks board t n level vector quiet-too, same-tried, same-mode)
 
   settled : (r : List ℕ) (p : Plan) → set (settle s r p) Ssp 0 ≡ set (settle t r p) Ssp 0
   unfolding settle usp-after sr-after
@@ -193,7 +193,7 @@ module _ (win : Window) (s t m n : List ℕ) (h : Alike win s t m n) where
       ap (λ (x : ℕ). eqb x 1) (ap (λ (x : ℕ). x / Supervisor % 2) (settled-sr s r p (h .user)) ∙ kept-super (sr-of s) (p .flow .sr)) ∙ h .user
 
   abbrev AlikeAfter : Stepped → Stepped → Type 0
-  AlikeAfter a b = Alike win (a .s) (b .s) (a .m) (b .m)
+  AlikeAfter a b = Alike board (a .s) (b .s) (a .m) (b .m)
 
   abbrev worked : List ℕ → List ℕ → Attempt → Stepped
   worked s m a = still (settle s (a .r) (a .t .p)) (written-by m (a .r) (a .t .p))
@@ -204,19 +204,19 @@ module _ (win : Window) (s t m n : List ℕ) (h : Alike win s t m n) where
       (record {
         user = settled-user (a .r) (a .t .p);
         slots = settled (a .r) (a .t .p);
-        memory = same-written win (a .r) (a .t .p) m n (h .memory);
+        memory = same-written board (a .r) (a .t .p) m n (h .memory);
       })
 
   module _ (level vector : ℕ) where
-    alike-by : Quiet win s m level → Quiet win t n level → AlikeAfter (one-step win s m level vector) (one-step win t n level vector)
+    alike-by : Quiet board s m level → Quiet board t n level → AlikeAfter (one-step board s m level vector) (one-step board t n level vector)
     alike-by (stands a b) (stands c d) =
-        subst₂ AlikeAfter (sym (step-stands win s m level vector a b)) (sym (step-stands win t n level vector c d)) h
+        subst₂ AlikeAfter (sym (step-stands board s m level vector a b)) (sym (step-stands board t n level vector c d)) h
     alike-by (stands a b) (works c d e f) = absurd (let z : _≡_ {A = ℕ} 0 1 = cc (same-mode, b, d) in omega (arith, z))
     alike-by (works a b c d) (stands e f) = absurd (let z : _≡_ {A = ℕ} 0 1 = cc (same-mode, b, f) in omega (arith, z))
     alike-by (works a b c d) (works e f g i) =
-        subst₂ AlikeAfter (sym (works-is win s m level vector a b c d)) (sym (works-is win t n level vector e f g i))
-        (alike-worked (tried win s m) (tried win t n) same-tried)
+        subst₂ AlikeAfter (sym (works-is board s m level vector a b c d)) (sym (works-is board t n level vector e f g i))
+        (alike-worked (tried board s m) (tried board t n) same-tried)
 
     -- and after the step the two are alike again
-    pub alike-next : one-step win s m level vector .event ≡ NoEvent → AlikeAfter (one-step win s m level vector) (one-step win t n level vector)
+    pub alike-next : one-step board s m level vector .event ≡ NoEvent → AlikeAfter (one-step board s m level vector) (one-step board t n level vector)
     alike-next e = alike-by (quiet level vector e) (quiet-too level vector e)

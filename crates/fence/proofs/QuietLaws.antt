@@ -9,7 +9,7 @@ use mathlib.Core.List.{List}
 use lib.Dec.{ltb, eqb}
 use Rattle.codes.specs.Codes.{Running, TraceVector, NoVector, NoEvent, NoWrite, event-of}
 use Rattle.bits.specs.Bits.{pick}
-use Rattle.bus.specs.declared.Window.{Window}
+use Rattle.bus.specs.Bus.{Board}
 use Rattle.bus.specs.Bus.{fault-vector}
 use Rattle.plan.specs.declared.Plan.{Plan}
 use Rattle.bank.specs.Bank.{sr-of, mode-of, tracing, settle}
@@ -65,12 +65,12 @@ module _ (s m r : List ℕ) (p : Plan) where
 
 -- ---- a step
 -- why a step names no event: it does nothing, or its instruction ends well
-pub data Quiet (win : Window) (s m : List ℕ) (level : ℕ) : Type 0 where
-  stands : interrupted s level ≡ false → eqb (mode-of s) Running ≡ false → Quiet win s m level
-  works : interrupted s level ≡ false → eqb (mode-of s) Running ≡ true → eqb (tried win s m .t .p .flow .bad) 0 ≡ true
-      → Calm (tried win s m .t .p) (tracing (sr-of s)) → Quiet win s m level
+pub data Quiet (board : Board) (s m : List ℕ) (level : ℕ) : Type 0 where
+  stands : interrupted s level ≡ false → eqb (mode-of s) Running ≡ false → Quiet board s m level
+  works : interrupted s level ≡ false → eqb (mode-of s) Running ≡ true → eqb (tried board s m .t .p .flow .bad) 0 ≡ true
+      → Calm (tried board s m .t .p) (tracing (sr-of s)) → Quiet board s m level
 
-module _ (win : Window) (s m : List ℕ) (level vector : ℕ) where
+module _ (board : Board) (s m : List ℕ) (level vector : ℕ) where
   fine-by : (t : Tried) (trace b : Bool) → eqb (t .p .flow .bad) 0 ≡ b
       → pick b (plan-event (t .p) trace) (event-of (fault-vector (t .p .flow .bad))) ≡ NoEvent
       → (eqb (t .p .flow .bad) 0 ≡ true) × Calm (t .p) trace
@@ -78,32 +78,32 @@ module _ (win : Window) (s m : List ℕ) (level vector : ℕ) where
   fine-by t trace false h e = absurd (omega (arith, e))
 
   quiet-by : (b c : Bool) → interrupted s level ≡ b → eqb (mode-of s) Running ≡ c
-      → pick b (event-of (vector % 256)) (pick c (tried-event (tried win s m .t) (tracing (sr-of s))) NoEvent) ≡ NoEvent → Quiet win s m level
+      → pick b (event-of (vector % 256)) (pick c (tried-event (tried board s m .t) (tracing (sr-of s))) NoEvent) ≡ NoEvent → Quiet board s m level
   quiet-by true c h k e = absurd (omega (arith, e))
   quiet-by false false h k e = stands h k
   quiet-by false true h k e =
-      let t = tried win s m .t in
+      let t = tried board s m .t in
       let x = fine-by t (tracing (sr-of s)) (eqb (t .p .flow .bad) 0) refl e in works h k (x .0) (x .1)
 
-  pub quiet-of : step-event win s m level vector ≡ NoEvent → Quiet win s m level
+  pub quiet-of : step-event board s m level vector ≡ NoEvent → Quiet board s m level
   quiet-of e = quiet-by (interrupted s level) (eqb (mode-of s) Running) refl refl e
 
   -- a step with no event names none
-  pub names-none : one-step win s m level vector .event ≡ NoEvent → step-event win s m level vector ≡ NoEvent
-  names-none e = none-named (step-event win s m level vector) (one-step win s m level vector .event) (step-names win s m level vector) e
+  pub names-none : one-step board s m level vector .event ≡ NoEvent → step-event board s m level vector ≡ NoEvent
+  names-none e = none-named (step-event board s m level vector) (one-step board s m level vector .event) (step-names board s m level vector) e
 
   -- what an instruction leaves that ends well
-  pub works-is : interrupted s level ≡ false → eqb (mode-of s) Running ≡ true → eqb (tried win s m .t .p .flow .bad) 0 ≡ true
-      → Calm (tried win s m .t .p) (tracing (sr-of s))
-      → one-step win s m level vector ≡ still (settle s (tried win s m .r) (tried win s m .t .p))
-      (written-by m (tried win s m .r) (tried win s m .t .p))
+  pub works-is : interrupted s level ≡ false → eqb (mode-of s) Running ≡ true → eqb (tried board s m .t .p .flow .bad) 0 ≡ true
+      → Calm (tried board s m .t .p) (tracing (sr-of s))
+      → one-step board s m level vector ≡ still (settle s (tried board s m .r) (tried board s m .t .p))
+      (written-by m (tried board s m .r) (tried board s m .t .p))
   works-is h k b c =
-      let r = tried win s m .r in
-      let t = tried win s m .t in
-      step-works win s m level vector h k ∙ conclude-fine s m r t b ∙ calm-left (settle s r (t .p)) m r (t .p) (tracing (sr-of s)) c
+      let r = tried board s m .r in
+      let t = tried board s m .t in
+      step-works board s m level vector h k ∙ conclude-fine s m r t b ∙ calm-left (settle s r (t .p)) m r (t .p) (tracing (sr-of s)) c
 
-  pub quiet-event : Quiet win s m level → one-step win s m level vector .event ≡ NoEvent
-  quiet-event (stands h k) = ap (λ (x : Stepped). x .event) (step-stands win s m level vector h k)
+  pub quiet-event : Quiet board s m level → one-step board s m level vector .event ≡ NoEvent
+  quiet-event (stands h k) = ap (λ (x : Stepped). x .event) (step-stands board s m level vector h k)
   quiet-event (works h k b c) = ap (λ (x : Stepped). x .event) (works-is h k b c)
 
   -- ---- its clocks: its instruction's own, or those of a machine that is stopped
@@ -112,25 +112,25 @@ module _ (win : Window) (s m : List ℕ) (level vector : ℕ) where
   concluded-by r t e = rw e
 
   clocks-worked : interrupted s level ≡ false → eqb (mode-of s) Running ≡ true
-      → step-clocks win s m level vector ≡ concluded-clocks s m (tried win s m .r) (tried win s m .t)
+      → step-clocks board s m level vector ≡ concluded-clocks s m (tried board s m .r) (tried board s m .t)
   unfolding step-clocks instruction-clocks
   clocks-worked h k = cc
 
-  clocks-stopped : interrupted s level ≡ false → eqb (mode-of s) Running ≡ false → step-clocks win s m level vector ≡ stopped-clocks
+  clocks-stopped : interrupted s level ≡ false → eqb (mode-of s) Running ≡ false → step-clocks board s m level vector ≡ stopped-clocks
   unfolding step-clocks
   clocks-stopped h k = cc
 
-  clocks-by : (c : Bool) → interrupted s level ≡ false → eqb (mode-of s) Running ≡ c → one-step win s m level vector .event ≡ NoEvent
-      → step-clocks win s m level vector ≡ pick c (tried win s m .t .clocks) stopped-clocks
+  clocks-by : (c : Bool) → interrupted s level ≡ false → eqb (mode-of s) Running ≡ c → one-step board s m level vector .event ≡ NoEvent
+      → step-clocks board s m level vector ≡ pick c (tried board s m .t .clocks) stopped-clocks
   clocks-by true h k e =
       clocks-worked h k
-      ∙ concluded-by (tried win s m .r) (tried win s m .t) (sym (ap (λ (x : Stepped). x .event) (step-works win s m level vector h k)) ∙ e)
+      ∙ concluded-by (tried board s m .r) (tried board s m .t) (sym (ap (λ (x : Stepped). x .event) (step-works board s m level vector h k)) ∙ e)
   clocks-by false h k e = clocks-stopped h k
 
-  standing : Quiet win s m level → interrupted s level ≡ false
+  standing : Quiet board s m level → interrupted s level ≡ false
   standing (stands h k) = h
   standing (works h k b c) = h
 
-  pub quiet-clocks : Quiet win s m level
-      → step-clocks win s m level vector ≡ pick (eqb (mode-of s) Running) (tried win s m .t .clocks) stopped-clocks
+  pub quiet-clocks : Quiet board s m level
+      → step-clocks board s m level vector ≡ pick (eqb (mode-of s) Running) (tried board s m .t .clocks) stopped-clocks
   quiet-clocks q = clocks-by (eqb (mode-of s) Running) (standing q) refl (quiet-event q)

@@ -11,17 +11,17 @@ use lib.Dec.{ltb, leb}
 use borrow.Author.Tests.{leb-true}
 use Rattle.bits.specs.Bits.{pick}
 use Rattle.bits.proofs.BitsLaws.{and-left, and-right}
-use Rattle.bus.specs.declared.Window.{Window}
+use Rattle.bus.specs.Bus.{Board}
 use Rattle.bus.specs.Bus.{two-at, allowed, all-of, seen-by}
 use Rattle.fence.specs.Fence.{Same}
 
 -- what the test says
-module _ (win : Window) (a n : ℕ) (t : allowed false win a n ≡ true) where
-  pub low-end : win .lo ≤ a
-  low-end = leb-true (win .lo) a (and-left (leb (win .lo) a) (leb (a + n) (win .hi)) t)
+module _ (board : Board) (a n : ℕ) (t : allowed false board a n ≡ true) where
+  pub low-end : board .lo ≤ a
+  low-end = leb-true (board .lo) a (and-left (leb (board .lo) a) (leb (a + n) (board .hi)) t)
 
-  pub high-end : a + n ≤ win .hi
-  high-end = leb-true (a + n) (win .hi) (and-right (leb (win .lo) a) (leb (a + n) (win .hi)) t)
+  pub high-end : a + n ≤ board .hi
+  high-end = leb-true (a + n) (board .hi) (and-right (leb (board .lo) a) (leb (a + n) (board .hi)) t)
 
 -- a choice in a choice, whose values are equal where the outer test holds
 chosen : (a b c : Bool) (x y : ℕ) → b ≡ c → (a ≡ true → x ≡ y) → pick a (pick b x 0) 0 ≡ pick a (pick c y 0) 0
@@ -29,40 +29,40 @@ chosen true true c x y e h = cc (h refl)
 chosen true false c x y e h = cc
 chosen false b c x y e h = refl
 
-module _ (win : Window) (m n : List ℕ) (h : Same win m n) where
+module _ (board : Board) (m n : List ℕ) (h : Same board m n) where
   shorter : (a : ℕ) → ltb a (length m) ≡ ltb a (length n)
   shorter a = ap (λ (l : ℕ). ltb a l) (h .long)
 
-  at : (a k i : ℕ) → allowed false win a k ≡ true → i < k → getD m (a + i) 0 ≡ getD n (a + i) 0
-  at a k i t g = h .bytes (a + i) (omega (arith, low-end win a k t)) (omega (arith, high-end win a k t))
+  at : (a k i : ℕ) → allowed false board a k ≡ true → i < k → getD m (a + i) 0 ≡ getD n (a + i) 0
+  at a k i t g = h .bytes (a + i) (omega (arith, low-end board a k t)) (omega (arith, high-end board a k t))
 
   abbrev byte-in : List ℕ → ℕ → ℕ
-  byte-in x a = pick (allowed false win a 1) (pick (ltb a (length x)) (getD x a 0) 0) 0
+  byte-in x a = pick (allowed false board a 1) (pick (ltb a (length x)) (getD x a 0) 0) 0
 
   abbrev word-in : List ℕ → ℕ → ℕ
-  word-in x a = pick (allowed false win a 2) (pick (ltb (a + 1) (length x)) (two-at x a) 0) 0
+  word-in x a = pick (allowed false board a 2) (pick (ltb (a + 1) (length x)) (two-at x a) 0) 0
 
   same-byte : (a : ℕ) → byte-in m a ≡ byte-in n a
-  same-byte a = chosen (allowed false win a 1) (ltb a (length m)) (ltb a (length n)) (getD m a 0) (getD n a 0) (shorter a) (λ t. first t)
+  same-byte a = chosen (allowed false board a 1) (ltb a (length m)) (ltb a (length n)) (getD m a 0) (getD n a 0) (shorter a) (λ t. first t)
     where
-      first : allowed false win a 1 ≡ true → getD m a 0 ≡ getD n a 0
-      first t = h .bytes a (low-end win a 1 t) (omega (arith, high-end win a 1 t))
+      first : allowed false board a 1 ≡ true → getD m a 0 ≡ getD n a 0
+      first t = h .bytes a (low-end board a 1 t) (omega (arith, high-end board a 1 t))
 
   same-word : (a : ℕ) → word-in m a ≡ word-in n a
   same-word a =
-      chosen (allowed false win a 2) (ltb (a + 1) (length m)) (ltb (a + 1) (length n)) (two-at m a) (two-at n a) (shorter (a + 1))
+      chosen (allowed false board a 2) (ltb (a + 1) (length m)) (ltb (a + 1) (length n)) (two-at m a) (two-at n a) (shorter (a + 1))
       (λ t. cc (first t, at a 2 1 t (omega arith)))
     where
-      first : allowed false win a 2 ≡ true → getD m a 0 ≡ getD n a 0
-      first t = h .bytes a (low-end win a 2 t) (omega (arith, high-end win a 2 t))
+      first : allowed false board a 2 ≡ true → getD m a 0 ≡ getD n a 0
+      first t = h .bytes a (low-end board a 2 t) (omega (arith, high-end board a 2 t))
 
-  pub same-view : seen-by false win m ≡ seen-by false win n
+  pub same-view : seen-by false board m ≡ seen-by false board n
   unfolding seen-by all-of
   same-view =
       λ i.
       record {
-        byte-ok = λ a. allowed false win a 1 && ltb a (h .long i);
-        word-ok = λ a. allowed false win a 2 && ltb (a + 1) (h .long i);
+        byte-ok = λ a. allowed false board a 1 && ltb a (h .long i);
+        word-ok = λ a. allowed false board a 2 && ltb (a + 1) (h .long i);
         byte = λ a. same-byte a i;
         word = λ a. same-word a i;
       }

@@ -1,6 +1,6 @@
 -- Rows.antt - rows of step calls, each given what the last one returned: their answers, their records, and that none takes an exception.
 -- Not here: what a step call is (Calls.antt and History.antt of the crate calls).
--- Laws: proofs/FenceLaws.antt.  Source: [K7], [K5].
+-- Laws: proofs/FenceLaws.antt.  Source: [K7], [K5], [K10].
 use Prim.Native.Nat.{ℕ}
 use mathlib.Core.Path.{_≡_}
 use mathlib.Core.List.{List, [], _∷_}
@@ -17,16 +17,16 @@ use Rattle.fence.specs.Fence.{Alike, Left}
 abbrev pub Fit : Machine → Type 0
 Fit x = Lent (x .slots) (x .memory)
 
--- two machines that agree on all slots but SSP, lo, hi, window bytes, memory length, journal length and mark, in user state  [K7]
+-- two machines that agree on all slots but SSP, lo, hi, the bytes of memory and of the ROM in the window, memory's length and the ROM's, journal
+-- length and mark, in user state  [K7] [K10]
 pub record AlikeMachines (x y : Machine) : Type 0 where
-  pub window : x .window ≡ y .window
-  pub states : Alike (x .window) (x .slots) (y .slots) (x .memory) (y .memory)
+  pub states : Alike (x .board) (y .board) (x .slots) (y .slots) (x .memory) (y .memory)
   pub journal : length (x .journal) ≡ length (y .journal)
   pub mark : x .mark ≡ y .mark
 
 -- machine y after machine x: T, S, mask, SSP and every byte outside the window are as they were  [K7]
 abbrev pub LeftMachine : Machine → Machine → Type 0
-LeftMachine x y = Left (x .window) (x .slots) (x .memory) (y .slots) (y .memory)
+LeftMachine x y = Left (x .board .window) (x .slots) (x .memory) (y .slots) (y .memory)
 
 module _ (w : Manner) where
   -- the answer of a step call with a request  [01 Calls]

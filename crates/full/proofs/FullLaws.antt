@@ -11,7 +11,7 @@ use lib.ListN.{length, set, length-set}
 use lib.Dec.{ltb, leb, eqb}
 use borrow.Author.Tests.{leb-true, leb-false, le-ltb, lt-ltb}
 use Rattle.codes.specs.Codes.{MostSteps}
-use Rattle.bus.specs.declared.Window.{Window}
+use Rattle.bus.specs.Bus.{Board}
 use Rattle.bank.specs.Bank.{pc-of, mode-of}
 use Rattle.numbers.proofs.WrittenLaws.{length-written}
 use Rattle.record.specs.Limits.{byte-limit, longest-record}
@@ -47,71 +47,71 @@ not-torn len j mark rs e f = go (ltb (length j - mark) longest-record)
 -- ---- the way back judged
 module _ (len : ℕ) (j : List ℕ) (mark : ℕ) (posts : List ℕ) (r : Bool) (is : NotedIs len j mark posts r) where
   -- torn: reason 6, where none before it holds
-  pub full-torn : r ≡ false → (win : Window) (budget n c stop : ℕ) (s m : List ℕ) → len ≡ length m → n < budget → eqb (mode-of s) 2 ≡ false → eqb (mode-of s) 1 ≡ false → longest-record ≤ length j → length j - mark < longest-record
-      → let o = running Dropping win (budget - n) n c 0 0 stop s m j mark in
+  pub full-torn : r ≡ false → (board : Board) (budget n c stop : ℕ) (s m : List ℕ) → len ≡ length m → n < budget → eqb (mode-of s) 2 ≡ false → eqb (mode-of s) 1 ≡ false → longest-record ≤ length j → length j - mark < longest-record
+      → let o = running Dropping board (budget - n) n c 0 0 stop s m j mark in
       (s ≡ o .s) × ((m ≡ o .m) × ((j ≡ o .j) × (record { number = 0; reason = 6; mark = mark; steps = n; clocks = c; moved = 0; dropped = 0 } ≡ o .a)))
   unfolding running
-  full-torn e win budget n c stop s m same low h₂ h₃ long short =
+  full-torn e board budget n c stop s m same low h₂ h₃ long short =
       let more : budget - n ≡ suc (budget - (n + 1)) = omega arith in
       let way : rows-of (length m) j mark ≡ torn = subst (λ (k : ℕ). rows-of k j mark ≡ torn) same (torn-when-not-noted len j mark posts r is e) in
       let h₆ : torn-way Dropping (length m) j mark ≡ true = rw (lt-ltb (length j - mark) longest-record short, way) in
-      let is : ended 6 n c 0 0 s m j mark ≡ running Dropping win (budget - n) n c 0 0 stop s m j mark = rw (more, h₂, h₃, le-ltb (length j) longest-record long, h₆) in
+      let is : ended 6 n c 0 0 s m j mark ≡ running Dropping board (budget - n) n c 0 0 stop s m j mark = rw (more, h₂, h₃, le-ltb (length j) longest-record long, h₆) in
       (ap (λ (o : RunCall). o .s) is, (ap (λ (o : RunCall). o .m) is, (ap (λ (o : RunCall). o .j) is, ap (λ (o : RunCall). o .a) is)))
 
 -- ---- a step on a turned journal
 -- m the memory, p the journal that is turned by b in its first h bytes, mark where the record goes
-module _ (win : Window) (s m p : List ℕ) (b h mark : ℕ) (valid : Valid s m) (turn : Turn b h mark) (top : h ≤ length p) (room : mark + longest-record ≤ length p) where
+module _ (board : Board) (s m p : List ℕ) (b h mark : ℕ) (valid : Valid s m) (turn : Turn b h mark) (top : h ≤ length p) (room : mark + longest-record ≤ length p) where
   abbrev here : Seen
-  here = record { window = win; slots = s; memory = m; mark = mark }
+  here = record { board = board; slots = s; memory = m; mark = mark }
 
   abbrev logged : List ℕ
-  logged = step-record s (one-step win s m 0 0 .s) m (one-step win s m 0 0 .m)
+  logged = step-record s (one-step board s m 0 0 .s) m (one-step board s m 0 0 .m)
 
   logged-is : logged ≡ row-bytes (row-after plain here)
   logged-is = refl
 
   short : length logged ≤ longest-record
-  short = record-room win s m 0 0 valid
+  short = record-room board s m 0 0 valid
 
   fits : mark + length logged ≤ length p
   fits = omega (arith, short)
 
   -- state and memory do not depend on the journal, and the record stands as it would on the journal that is not turned
-  pub taken-turned : step-taken win s m 0 0 (turned b h p) mark .j ≡ turned b h (step-taken win s m 0 0 p mark .j)
+  pub taken-turned : step-taken board s m 0 0 (turned b h p) mark .j ≡ turned b h (step-taken board s m 0 0 p mark .j)
   unfolding step-taken
   taken-turned = written-turned b h p mark logged turn top fits
 
-  pub taken-state : step-taken win s m 0 0 (turned b h p) mark .s ≡ step-taken win s m 0 0 p mark .s
+  pub taken-state : step-taken board s m 0 0 (turned b h p) mark .s ≡ step-taken board s m 0 0 p mark .s
   unfolding step-taken
   taken-state = refl
 
-  pub taken-memory : step-taken win s m 0 0 (turned b h p) mark .m ≡ step-taken win s m 0 0 p mark .m
+  pub taken-memory : step-taken board s m 0 0 (turned b h p) mark .m ≡ step-taken board s m 0 0 p mark .m
   unfolding step-taken
   taken-memory = refl
 
-  pub taken-answer : step-taken win s m 0 0 (turned b h p) mark .a ≡ step-taken win s m 0 0 p mark .a
+  pub taken-answer : step-taken board s m 0 0 (turned b h p) mark .a ≡ step-taken board s m 0 0 p mark .a
   unfolding step-taken
   taken-answer = refl
 
   -- what goes on
-  pub taken-valid : Valid (step-taken win s m 0 0 p mark .s) (step-taken win s m 0 0 p mark .m)
+  pub taken-valid : Valid (step-taken board s m 0 0 p mark .s) (step-taken board s m 0 0 p mark .m)
   unfolding step-taken
-  taken-valid = valid-after-step win s m 0 0 valid
+  taken-valid = valid-after-step board s m 0 0 valid
 
-  pub taken-size : length (step-taken win s m 0 0 p mark .m) ≡ length m
+  pub taken-size : length (step-taken board s m 0 0 p mark .m) ≡ length m
   unfolding step-taken
-  taken-size = kept-by win s m 0 0 valid .memory
+  taken-size = kept-by board s m 0 0 valid .memory
 
-  pub taken-length : length (step-taken win s m 0 0 p mark .j) ≡ length p
+  pub taken-length : length (step-taken board s m 0 0 p mark .j) ≡ length p
   unfolding step-taken
   taken-length = length-written p mark logged fits
 
-  pub taken-mark : (mark ≤ step-taken win s m 0 0 p mark .a .mark) × (step-taken win s m 0 0 p mark .a .mark ≤ mark + longest-record)
+  pub taken-mark : (mark ≤ step-taken board s m 0 0 p mark .a .mark) × (step-taken board s m 0 0 p mark .a .mark ≤ mark + longest-record)
   unfolding step-taken
   taken-mark = (omega arith, omega (arith, short))
 
   pub taken-known : (posts near : List ℕ) (i base k : ℕ) → Known (length m) (turned b h p) mark posts near i base
-      → Known (length m) (turned b h (step-taken win s m 0 0 p mark .j)) (step-taken win s m 0 0 p mark .a .mark) (set posts k (base + mark)) near i base
+      → Known (length m) (turned b h (step-taken board s m 0 0 p mark .j)) (step-taken board s m 0 0 p mark .a .mark) (set posts k (base + mark)) near i base
   unfolding step-taken
   taken-known posts near i base k x =
       held-after-step (length m) b h p mark posts near i base (row-after plain here) x (let q = small-enough s m valid in omega arith) turn top fits (row-after-good plain here valid) k
@@ -124,13 +124,13 @@ either-of (inr y) f k = k y
 -- ---- the loop
 -- At its head, n steps of c clocks done, v bytes moved (cut at 64 bits) and u records dropped: what is left of the run gives its answer o, and a
 -- step can be taken. The journal is p, turned by b in its first h bytes; base bytes are dropped. [ours]
-pub record Going (win : Window) (budget stop : ℕ) (o : RunCall) (h first : ℕ) (m₀ p₀ l₀ posts₀ near₀ s m p l posts near : List ℕ) (n c mark b i base v u : ℕ) : Type 0 where
+pub record Going (board : Board) (budget stop : ℕ) (o : RunCall) (h first : ℕ) (m₀ p₀ l₀ posts₀ near₀ s m p l posts near : List ℕ) (n c mark b i base v u : ℕ) : Type 0 where
   pub le : n ≤ budget
   pub few : budget ≤ MostSteps
   pub sum : c ≤ most-clocks * n
   pub exact : ℕ
   pub cut : v ≡ capped exact
-  pub rest : running Dropping win (budget - n) n c exact u stop s m (turned b h p) mark ≡ o
+  pub rest : running Dropping board (budget - n) n c exact u stop s m (turned b h p) mark ≡ o
   pub valid : Valid s m
   pub same-memory : length m ≡ length m₀
   pub same-journal : length p ≡ length p₀
@@ -146,10 +146,10 @@ pub record Going (win : Window) (budget stop : ℕ) (o : RunCall) (h first : ℕ
   pub bound : base + mark ≤ first + longest-record * n
   pub weighs : u ≤ base
 
-pub going-start : (win : Window) (budget stop done clocks h : ℕ) (s m p l posts near : List ℕ) (mark : ℕ) → Valid s m → mark ≤ length p → byte-limit ≤ length l → longest-record ≤ length p → budget ≤ MostSteps → done ≤ budget
+pub going-start : (board : Board) (budget stop done clocks h : ℕ) (s m p l posts near : List ℕ) (mark : ℕ) → Valid s m → mark ≤ length p → byte-limit ≤ length l → longest-record ≤ length p → budget ≤ MostSteps → done ≤ budget
     → clocks ≤ most-clocks * done → h ≤ length p → Known (length m) p mark posts near (length near) 0
-    → Going win budget stop (running Dropping win (budget - done) done clocks 0 0 stop s m p mark) h mark m p l posts near s m p l posts near done clocks mark 0 (length near) 0 0 0
-going-start win budget stop done clocks h s m p l posts near mark valid inside log long few low sum top known =
+    → Going board budget stop (running Dropping board (budget - done) done clocks 0 0 stop s m p mark) h mark m p l posts near s m p l posts near done clocks mark 0 (length near) 0 0 0
+going-start board budget stop done clocks h s m p l posts near mark valid inside log long few low sum top known =
     let same = turned-none h p in
     record {
       le = low;
@@ -157,7 +157,7 @@ going-start win budget stop done clocks h s m p l posts near mark valid inside l
       sum = sum;
       exact = 0;
       cut = refl;
-      rest = ap (λ (j : List ℕ). running Dropping win (budget - done) done clocks 0 0 stop s m j mark) same;
+      rest = ap (λ (j : List ℕ). running Dropping board (budget - done) done clocks 0 0 stop s m j mark) same;
       valid = valid;
       same-memory = refl;
       same-journal = refl;
@@ -174,8 +174,8 @@ going-start win budget stop done clocks h s m p l posts near mark valid inside l
       weighs = omega arith;
     }
 
-module _ {win : Window} {budget stop : ℕ} {o : RunCall} {h first : ℕ} {m₀ p₀ l₀ posts₀ near₀ s m p l posts near : List ℕ} {n c mark b i base v u : ℕ}
-    (g : Going win budget stop o h first m₀ p₀ l₀ posts₀ near₀ s m p l posts near n c mark b i base v u) where
+module _ {board : Board} {budget stop : ℕ} {o : RunCall} {h first : ℕ} {m₀ p₀ l₀ posts₀ near₀ s m p l posts near : List ℕ} {n c mark b i base v u : ℕ}
+    (g : Going board budget stop o h first m₀ p₀ l₀ posts₀ near₀ s m p l posts near n c mark b i base v u) where
   -- the run gives what is there now, once the journal is turned back, and reason k
   abbrev pub Gives : ℕ → Type 0
   Gives k =
@@ -222,7 +222,7 @@ module _ {win : Window} {budget stop : ℕ} {o : RunCall} {h first : ℕ} {m₀ 
     more : budget - n ≡ suc (budget - (n + 1))
     more = let q : n < budget = leb-false budget n e₁ in omega arith
 
-    now-left : running Dropping win (suc (budget - (n + 1))) n c (g .exact) u stop s m (turned b h p) mark ≡ o
+    now-left : running Dropping board (suc (budget - (n + 1))) n c (g .exact) u stop s m (turned b h p) mark ≡ o
     now-left = rw more at (g .rest)
 
     pub going-halted : eqb (mode-of s) 2 ≡ true → Gives 2
@@ -240,8 +240,8 @@ module _ {win : Window} {budget stop : ℕ} {o : RunCall} {h first : ℕ} {m₀ 
         going-there e = gives 5 (rw (e₂, e₃, room-here, whole-here, e) at now-left)
 
         module _ (e₅ : eqb (pc-of s) stop ≡ false) where
-          stepped-left : (let t = step-with-room Dropping win s m 0 0 (turned b h p) mark in
-              running Dropping win (budget - (n + 1)) (n + 1) (c + t .a .clocks) (g .exact + t .a .moved) (u + t .a .dropped) stop (t .s) (t .m) (t .j) (t .a .mark)) ≡ o
+          stepped-left : (let t = step-with-room Dropping board s m 0 0 (turned b h p) mark in
+              running Dropping board (budget - (n + 1)) (n + 1) (c + t .a .clocks) (g .exact + t .a .moved) (u + t .a .dropped) stop (t .s) (t .m) (t .j) (t .a .mark)) ≡ o
           unfolding running
           stepped-left = rw (e₂, e₃, room-here, whole-here, e₅) at now-left
 
@@ -263,7 +263,7 @@ module _ {win : Window} {budget stop : ℕ} {o : RunCall} {h first : ℕ} {m₀ 
     is = subst (λ (k : ℕ). MadeIs k (turned b h p) mark h base p₁ posts near₁ r) (sym (g .same-memory)) made
 
     abbrev t : StepCall
-    t = step-taken win s m 0 0 p₁ (r .mark)
+    t = step-taken board s m 0 0 p₁ (r .mark)
 
     top₁ : h ≤ length p₁
     top₁ = let q = g .top in omega arith
@@ -285,57 +285,57 @@ module _ {win : Window} {budget stop : ℕ} {o : RunCall} {h first : ℕ} {m₀ 
     summed : (a : StepAnswer) → a ≡ t .a → c + a .clocks ≤ most-clocks * (n + 1)
     unfolding step-taken
     summed a e =
-        let q : a .clocks ≡ step-clocks win s m 0 0 = ap (λ (a : StepAnswer). a .clocks) e in
-        omega (arith, q, g .sum, largest-step win s m 0 0)
+        let q : a .clocks ≡ step-clocks board s m 0 0 = ap (λ (a : StepAnswer). a .clocks) e in
+        omega (arith, q, g .sum, largest-step board s m 0 0)
 
     pub going-sum : leb budget n ≡ false → (a : StepAnswer) → a ≡ t .a → c + a .clocks < 2 ^ 32
     going-sum e a q = let z : n < budget = leb-false budget n e in omega (arith, summed a q, g .few)
 
     -- the step of the definition is the one that is taken
     abbrev w : StepCall
-    w = step-with-room Dropping win s m 0 0 (turned b h p) mark
+    w = step-with-room Dropping board s m 0 0 (turned b h p) mark
 
-    room-is : step-taken win s m 0 0 (make-room (length m) (turned b h p) mark .j) (make-room (length m) (turned b h p) mark .a .mark) ≡ step-taken win s m 0 0 (turned (r .b) h p₁) (r .mark)
+    room-is : step-taken board s m 0 0 (make-room (length m) (turned b h p) mark .j) (make-room (length m) (turned b h p) mark .a .mark) ≡ step-taken board s m 0 0 (turned (r .b) h p₁) (r .mark)
     room-is =
-        ap (λ (j : List ℕ). step-taken win s m 0 0 j (make-room (length m) (turned b h p) mark .a .mark)) (sym (is .journal))
-        ∙ ap (λ (a : Room). step-taken win s m 0 0 (turned (r .b) h p₁) (a .mark)) (is .answer)
+        ap (λ (j : List ℕ). step-taken board s m 0 0 j (make-room (length m) (turned b h p) mark .a .mark)) (sym (is .journal))
+        ∙ ap (λ (a : Room). step-taken board s m 0 0 (turned (r .b) h p₁) (a .mark)) (is .answer)
 
     slots-are : w .s ≡ t .s
     unfolding step-with-room
-    slots-are = ap (λ (c : StepCall). c .s) room-is ∙ taken-state win s m p₁ (r .b) h (r .mark) (g .valid) (is .turn) top₁ room₁
+    slots-are = ap (λ (c : StepCall). c .s) room-is ∙ taken-state board s m p₁ (r .b) h (r .mark) (g .valid) (is .turn) top₁ room₁
 
     memory-is : w .m ≡ t .m
     unfolding step-with-room
-    memory-is = ap (λ (c : StepCall). c .m) room-is ∙ taken-memory win s m p₁ (r .b) h (r .mark) (g .valid) (is .turn) top₁ room₁
+    memory-is = ap (λ (c : StepCall). c .m) room-is ∙ taken-memory board s m p₁ (r .b) h (r .mark) (g .valid) (is .turn) top₁ room₁
 
     journal-is : w .j ≡ turned (r .b) h (t .j)
     unfolding step-with-room
-    journal-is = ap (λ (c : StepCall). c .j) room-is ∙ taken-turned win s m p₁ (r .b) h (r .mark) (g .valid) (is .turn) top₁ room₁
+    journal-is = ap (λ (c : StepCall). c .j) room-is ∙ taken-turned board s m p₁ (r .b) h (r .mark) (g .valid) (is .turn) top₁ room₁
 
     answer-is : w .a ≡ record { number = t .a .number; event = t .a .event; mark = t .a .mark; clocks = t .a .clocks; moved = r .moved; dropped = r .dropped }
     unfolding step-with-room
     answer-is =
-        let told = ap (λ (c : StepCall). c .a) room-is ∙ taken-answer win s m p₁ (r .b) h (r .mark) (g .valid) (is .turn) top₁ room₁ in
+        let told = ap (λ (c : StepCall). c .a) room-is ∙ taken-answer board s m p₁ (r .b) h (r .mark) (g .valid) (is .turn) top₁ room₁ in
         ap (λ (a : StepAnswer). record { number = a .number; event = a .event; mark = a .mark; clocks = a .clocks; moved = make-room (length m) (turned b h p) mark .a .moved; dropped = make-room (length m) (turned b h p) mark .a .dropped }) told
         ∙ ap (λ (q : Room). record { number = t .a .number; event = t .a .event; mark = t .a .mark; clocks = t .a .clocks; moved = q .moved; dropped = q .dropped }) (is .answer)
 
     module _ (e₁ : leb budget n ≡ false) (e₂ : eqb (mode-of s) 2 ≡ false) (e₃ : eqb (mode-of s) 1 ≡ false) (e₅ : eqb (pc-of s) stop ≡ false)
         (s₂ m₂ p₂ l₂ : List ℕ) (a : StepAnswer) (d₁ : s₂ ≡ t .s) (d₂ : m₂ ≡ t .m) (d₃ : p₂ ≡ t .j) (d₄ : a ≡ t .a) (v₂ : ℕ) (d₅ : v₂ ≡ capped (v + r .moved)) where
-      left-then : running Dropping win (budget - (n + 1)) (n + 1) (c + a .clocks) (g .exact + r .moved) (u + r .dropped) stop s₂ m₂ (turned (r .b) h p₂) (a .mark) ≡ o
+      left-then : running Dropping board (budget - (n + 1)) (n + 1) (c + a .clocks) (g .exact + r .moved) (u + r .dropped) stop s₂ m₂ (turned (r .b) h p₂) (a .mark) ≡ o
       left-then =
           let q = stepped-left e₁ e₂ e₃ e₅ in
           let z = rw (slots-are, memory-is, journal-is, answer-is) at q in
           rw (d₁, d₂, d₃, d₄) z
 
       pub going-again : (k : ℕ) (posts₂ : List ℕ) → posts₂ ≡ set posts k (r .base + r .mark) → length near₁ ≡ length near → length l₂ ≡ length l
-          → Going win budget stop o h first m₀ p₀ l₀ posts₀ near₀ s₂ m₂ p₂ l₂ posts₂ near₁ (n + 1) (c + a .clocks) (a .mark) (r .b) (r .i) (r .base) v₂ (u + r .dropped)
+          → Going board budget stop o h first m₀ p₀ l₀ posts₀ near₀ s₂ m₂ p₂ l₂ posts₂ near₁ (n + 1) (c + a .clocks) (a .mark) (r .b) (r .i) (r .base) v₂ (u + r .dropped)
       going-again k posts₂ noted same-near same-log =
           let mark-told : a .mark ≡ t .a .mark = ap (λ (a : StepAnswer). a .mark) d₄ in
-          let grown = taken-mark win s m p₁ (r .b) h (r .mark) (g .valid) (is .turn) top₁ room₁ in
-          let length₂ : length p₂ ≡ length p₁ = ap length d₃ ∙ taken-length win s m p₁ (r .b) h (r .mark) (g .valid) (is .turn) top₁ room₁ in
-          let size₂ : length m₂ ≡ length m = ap length d₂ ∙ taken-size win s m p₁ (r .b) h (r .mark) (g .valid) (is .turn) top₁ room₁ in
+          let grown = taken-mark board s m p₁ (r .b) h (r .mark) (g .valid) (is .turn) top₁ room₁ in
+          let length₂ : length p₂ ≡ length p₁ = ap length d₃ ∙ taken-length board s m p₁ (r .b) h (r .mark) (g .valid) (is .turn) top₁ room₁ in
+          let size₂ : length m₂ ≡ length m = ap length d₂ ∙ taken-size board s m p₁ (r .b) h (r .mark) (g .valid) (is .turn) top₁ room₁ in
           let posts-same : length posts₂ ≡ length posts = ap length noted ∙ length-set posts k (r .base + r .mark) in
-          let known₂ = taken-known win s m p₁ (r .b) h (r .mark) (g .valid) (is .turn) top₁ room₁ posts near₁ (r .i) (r .base) k (is .known) in
+          let known₂ = taken-known board s m p₁ (r .b) h (r .mark) (g .valid) (is .turn) top₁ room₁ posts near₁ (r .i) (r .base) k (is .known) in
           record {
             le = (let q : n < budget = leb-false budget n e₁ in omega arith);
             few = g .few;
@@ -343,7 +343,7 @@ module _ {win : Window} {budget stop : ℕ} {o : RunCall} {h first : ℕ} {m₀ 
             exact = g .exact + r .moved;
             cut = d₅ ∙ ap (λ (x : ℕ). capped (x + r .moved)) (g .cut) ∙ capped-sum (g .exact) (r .moved);
             rest = left-then;
-            valid = rw (d₁, d₂) (taken-valid win s m p₁ (r .b) h (r .mark) (g .valid) (is .turn) top₁ room₁);
+            valid = rw (d₁, d₂) (taken-valid board s m p₁ (r .b) h (r .mark) (g .valid) (is .turn) top₁ room₁);
             same-memory = size₂ ∙ g .same-memory;
             same-journal = length₂ ∙ same₁ ∙ g .same-journal;
             same-log = same-log ∙ g .same-log;

@@ -1,12 +1,13 @@
 // lib.rt - the steps of a run that has found its journal full: where room is short the fewest oldest records are dropped. All records are
 // read once, at the start, and then again only when they are about to be dropped; and the journal is turned instead of moved.
 // Means: running of the crate calls at Dropping; specs/Full.antt.  Laws: proofs/MadeLaws.antt, proofs/FullLaws.antt.
-// Uses: codes, bus, record, oldest, turned, starts, held, step, calls, taken.  Source: [K5], [K7].
+// Uses: codes, bus, record, oldest, turned, starts, held, step, calls, taken.  Source: [K5], [K7], [K10].
 ghost use mathlib.Core.Path.{_≡_};
 ghost use mathlib.Core.Bool.{true, false};
 ghost use Prim.Native.Nat.{_+_, _-_, _*_, _≤_, _<_, _^_};
 ghost use lib.ListN.{length};
 ghost use lib.Dec.{eqb};
+ghost use Rattle.bus.specs.Bus.{board-of};
 ghost use Rattle.codes.specs.Codes.{MostSteps};
 ghost use Rattle.bank.specs.Bank.{mode-of};
 ghost use Rattle.record.specs.Limits.{byte-limit, longest-record};
@@ -82,6 +83,7 @@ fn running_known(
     slots: &mut [u32; SLOTS],
     win: Window,
     memory: &mut [u8],
+    rom: &[u8],
     budget: u32,
     stop: u32,
     journal: &mut [u8],
@@ -97,10 +99,10 @@ fn running_known(
     requires { ⌜ (memory-fits (now memory) ≡ true) × (mark ≤ length (now journal)) × (byte-limit ≤ length (now log)) × (state-fits (now slots) ≡ true) × (longest-record ≤ length (now journal)) ⌝ }
     requires { ⌜ (budget ≤ MostSteps) × (done ≤ budget) × (clocks ≤ most-clocks * done) ⌝ }
     requires { ⌜ (h ≤ length (now journal)) × (0 < spread) × (0 < length (now posts)) × (0 < length (now near)) × Known (length (now memory)) (now journal) mark (now posts) (now near) (length (now near)) 0 ⌝ }
-    ensures { λ _. ⌜ now (slots .exit) ≡ running Dropping win (budget - done) done clocks 0 0 stop (now (slots .entry)) (now (memory .entry)) (now (journal .entry)) mark .s ⌝ }
-    ensures { λ _. ⌜ now (memory .exit) ≡ running Dropping win (budget - done) done clocks 0 0 stop (now (slots .entry)) (now (memory .entry)) (now (journal .entry)) mark .m ⌝ }
-    ensures { λ _. ⌜ now (journal .exit) ≡ running Dropping win (budget - done) done clocks 0 0 stop (now (slots .entry)) (now (memory .entry)) (now (journal .entry)) mark .j ⌝ }
-    ensures { λ a. ⌜ a ≡ running Dropping win (budget - done) done clocks 0 0 stop (now (slots .entry)) (now (memory .entry)) (now (journal .entry)) mark .a ⌝ }
+    ensures { λ _. ⌜ now (slots .exit) ≡ running Dropping (board-of win (now (rom .entry))) (budget - done) done clocks 0 0 stop (now (slots .entry)) (now (memory .entry)) (now (journal .entry)) mark .s ⌝ }
+    ensures { λ _. ⌜ now (memory .exit) ≡ running Dropping (board-of win (now (rom .entry))) (budget - done) done clocks 0 0 stop (now (slots .entry)) (now (memory .entry)) (now (journal .entry)) mark .m ⌝ }
+    ensures { λ _. ⌜ now (journal .exit) ≡ running Dropping (board-of win (now (rom .entry))) (budget - done) done clocks 0 0 stop (now (slots .entry)) (now (memory .entry)) (now (journal .entry)) mark .j ⌝ }
+    ensures { λ a. ⌜ a ≡ running Dropping (board-of win (now (rom .entry))) (budget - done) done clocks 0 0 stop (now (slots .entry)) (now (memory .entry)) (now (journal .entry)) mark .a ⌝ }
 {
     let size = taken::twenty(slots);
     let long = taken::bytes(memory);
@@ -132,7 +134,7 @@ fn running_known(
         }
         let r = room_known(journal, m, len, b, h, base, spread, posts, near, i);
         starts::posts::note_post(posts, spread, r.base + r.mark);
-        let a = taken::step_taken(slots, win, memory, 0, 0, journal, r.mark, log);
+        let a = taken::step_taken(slots, win, memory, rom, 0, 0, journal, r.mark, log);
         m = a.mark;
         b = r.b;
         i = r.i;
@@ -169,6 +171,7 @@ pub fn running_full(
     slots: &mut [u32; SLOTS],
     win: Window,
     memory: &mut [u8],
+    rom: &[u8],
     budget: u32,
     stop: u32,
     journal: &mut [u8],
@@ -180,10 +183,10 @@ pub fn running_full(
     requires { ⌜ (memory-fits (now memory) ≡ true) × (mark ≤ length (now journal)) × (byte-limit ≤ length (now log)) × (state-fits (now slots) ≡ true) × (longest-record ≤ length (now journal)) ⌝ }
     requires { ⌜ (budget ≤ MostSteps) × (clocks ≤ most-clocks * done) ⌝ }
     requires { ⌜ (done < budget) × (eqb (mode-of (now slots)) 2 ≡ false) × (eqb (mode-of (now slots)) 1 ≡ false) × (length (now journal) - mark < longest-record) ⌝ }
-    ensures { λ _. ⌜ now (slots .exit) ≡ running Dropping win (budget - done) done clocks 0 0 stop (now (slots .entry)) (now (memory .entry)) (now (journal .entry)) mark .s ⌝ }
-    ensures { λ _. ⌜ now (memory .exit) ≡ running Dropping win (budget - done) done clocks 0 0 stop (now (slots .entry)) (now (memory .entry)) (now (journal .entry)) mark .m ⌝ }
-    ensures { λ _. ⌜ now (journal .exit) ≡ running Dropping win (budget - done) done clocks 0 0 stop (now (slots .entry)) (now (memory .entry)) (now (journal .entry)) mark .j ⌝ }
-    ensures { λ a. ⌜ a ≡ running Dropping win (budget - done) done clocks 0 0 stop (now (slots .entry)) (now (memory .entry)) (now (journal .entry)) mark .a ⌝ }
+    ensures { λ _. ⌜ now (slots .exit) ≡ running Dropping (board-of win (now (rom .entry))) (budget - done) done clocks 0 0 stop (now (slots .entry)) (now (memory .entry)) (now (journal .entry)) mark .s ⌝ }
+    ensures { λ _. ⌜ now (memory .exit) ≡ running Dropping (board-of win (now (rom .entry))) (budget - done) done clocks 0 0 stop (now (slots .entry)) (now (memory .entry)) (now (journal .entry)) mark .m ⌝ }
+    ensures { λ _. ⌜ now (journal .exit) ≡ running Dropping (board-of win (now (rom .entry))) (budget - done) done clocks 0 0 stop (now (slots .entry)) (now (memory .entry)) (now (journal .entry)) mark .j ⌝ }
+    ensures { λ a. ⌜ a ≡ running Dropping (board-of win (now (rom .entry))) (budget - done) done clocks 0 0 stop (now (slots .entry)) (now (memory .entry)) (now (journal .entry)) mark .a ⌝ }
 {
     let len = memory.len();
     // The longest record more than needed for so many posts, so that hardly an entry is without a start.
@@ -197,6 +200,7 @@ pub fn running_full(
             slots,
             win,
             memory,
+            rom,
             budget,
             stop,
             journal,

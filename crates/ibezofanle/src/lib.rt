@@ -1,10 +1,12 @@
 // lib.rt - the calls from C: reset, step and run in both manners, undo, the tryer, with the state in a lent block of 80 bytes; the two
-// conversions of a journal. No `requires`.  Declared for C in c/ibezofanle.h.
-// Means: Calls and Promises of the crate block_calls, Promises of forms, where the laws and the theorems stand.
-// Uses: bus, block, calls, block_calls, keeping, machine, tries, forms.  Source: [K1], [K2], [K5], [K7], [K8].
+// conversions of a journal; the part of memory or ROM. No `requires`.  Declared for C in c/ibezofanle.h.
+// Means: Calls and Promises of the crate block_calls, Promises of forms, Part of part, where the laws and the theorems stand.
+// Uses: bus, block, calls, block_calls, part, keeping, machine, tries, forms.  Source: [K1], [K2], [K5], [K7], [K8], [K10].
+ghost use Rattle.bus.specs.Bus.{board-of};
 ghost use Rattle.calls.specs.declared.Manner.the-variants.{Dropping, Keeping};
 ghost use Rattle.block_calls.specs.Promises.{IbzResetPromise, IbzStepPromise, IbzRunPromise, IbzUndoPromise};
 ghost use Rattle.block_calls.specs.Tries.{IbzTryPromise, IbzBackPromise};
+ghost use Rattle.part.specs.Part.{PartPromise};
 ghost use Rattle.forms.specs.declared.Form.the-variants.{One, Two};
 ghost use Rattle.forms.specs.Promises.{ConvertPromise};
 use block::BLOCK_LENGTH;
@@ -23,8 +25,8 @@ const NO_BLOCK: u32 = 9;
 
 // Reset. It does not write memory.
 #[no_mangle]
-pub extern "C" fn ibz_reset(block: &mut [u8], memory: &[u8]) -> ResetAnswer
-    ensures { λ a. ⌜ IbzResetPromise (now (block .entry)) (now (memory .entry)) (now (block .exit)) a ⌝ }
+pub extern "C" fn ibz_reset(block: &mut [u8], memory: &[u8], rom: &[u8]) -> ResetAnswer
+    ensures { λ a. ⌜ IbzResetPromise (now (block .entry)) (now (memory .entry)) (now (rom .entry)) (now (block .exit)) a ⌝ }
 {
     if block.len() != BLOCK_LENGTH {
         return ResetAnswer {
@@ -34,7 +36,7 @@ pub extern "C" fn ibz_reset(block: &mut [u8], memory: &[u8]) -> ResetAnswer
         };
     }
     let mut slots = block::slots_in(block);
-    let a = machine::reset(&mut slots, memory);
+    let a = machine::reset(&mut slots, memory, rom);
     block::put_block(block, &slots);
     a
 }
@@ -47,12 +49,13 @@ pub extern "C" fn ibz_step(
     lo: u32,
     hi: u32,
     memory: &mut [u8],
+    rom: &[u8],
     level: u32,
     vector: u8,
     journal: &mut [u8],
     mark: usize,
 ) -> StepAnswer
-    ensures { λ a. ⌜ IbzStepPromise Dropping (now (block .entry)) (record { lo = lo; hi = hi }) (now (memory .entry)) level vector (now (journal .entry)) mark (now (block .exit)) (now (memory .exit)) (now (journal .exit)) a ⌝ }
+    ensures { λ a. ⌜ IbzStepPromise Dropping (now (block .entry)) (board-of (record { lo = lo; hi = hi }) (now (rom .entry))) (now (memory .entry)) level vector (now (journal .entry)) mark (now (block .exit)) (now (memory .exit)) (now (journal .exit)) a ⌝ }
 {
     if block.len() != BLOCK_LENGTH {
         return StepAnswer {
@@ -66,7 +69,7 @@ pub extern "C" fn ibz_step(
     }
     let mut slots = block::slots_in(block);
     let win = Window { lo, hi };
-    let a = machine::step(&mut slots, win, memory, level, vector, journal, mark);
+    let a = machine::step(&mut slots, win, memory, rom, level, vector, journal, mark);
     block::put_block(block, &slots);
     a
 }
@@ -77,12 +80,13 @@ pub extern "C" fn ibz_run(
     lo: u32,
     hi: u32,
     memory: &mut [u8],
+    rom: &[u8],
     budget: u32,
     stop: u32,
     journal: &mut [u8],
     mark: usize,
 ) -> RunAnswer
-    ensures { λ a. ⌜ IbzRunPromise Dropping (now (block .entry)) (record { lo = lo; hi = hi }) (now (memory .entry)) budget stop (now (journal .entry)) mark (now (block .exit)) (now (memory .exit)) (now (journal .exit)) a ⌝ }
+    ensures { λ a. ⌜ IbzRunPromise Dropping (now (block .entry)) (board-of (record { lo = lo; hi = hi }) (now (rom .entry))) (now (memory .entry)) budget stop (now (journal .entry)) mark (now (block .exit)) (now (memory .exit)) (now (journal .exit)) a ⌝ }
 {
     if block.len() != BLOCK_LENGTH {
         return RunAnswer {
@@ -97,7 +101,7 @@ pub extern "C" fn ibz_run(
     }
     let mut slots = block::slots_in(block);
     let win = Window { lo, hi };
-    let a = machine::run(&mut slots, win, memory, budget, stop, journal, mark);
+    let a = machine::run(&mut slots, win, memory, rom, budget, stop, journal, mark);
     block::put_block(block, &slots);
     a
 }
@@ -110,12 +114,13 @@ pub extern "C" fn ibz_step_keeping(
     lo: u32,
     hi: u32,
     memory: &mut [u8],
+    rom: &[u8],
     level: u32,
     vector: u8,
     journal: &mut [u8],
     mark: usize,
 ) -> StepAnswer
-    ensures { λ a. ⌜ IbzStepPromise Keeping (now (block .entry)) (record { lo = lo; hi = hi }) (now (memory .entry)) level vector (now (journal .entry)) mark (now (block .exit)) (now (memory .exit)) (now (journal .exit)) a ⌝ }
+    ensures { λ a. ⌜ IbzStepPromise Keeping (now (block .entry)) (board-of (record { lo = lo; hi = hi }) (now (rom .entry))) (now (memory .entry)) level vector (now (journal .entry)) mark (now (block .exit)) (now (memory .exit)) (now (journal .exit)) a ⌝ }
 {
     if block.len() != BLOCK_LENGTH {
         return StepAnswer {
@@ -129,7 +134,7 @@ pub extern "C" fn ibz_step_keeping(
     }
     let mut slots = block::slots_in(block);
     let win = Window { lo, hi };
-    let a = keeping::step_keeping(&mut slots, win, memory, level, vector, journal, mark);
+    let a = keeping::step_keeping(&mut slots, win, memory, rom, level, vector, journal, mark);
     block::put_block(block, &slots);
     a
 }
@@ -140,12 +145,13 @@ pub extern "C" fn ibz_run_keeping(
     lo: u32,
     hi: u32,
     memory: &mut [u8],
+    rom: &[u8],
     budget: u32,
     stop: u32,
     journal: &mut [u8],
     mark: usize,
 ) -> RunAnswer
-    ensures { λ a. ⌜ IbzRunPromise Keeping (now (block .entry)) (record { lo = lo; hi = hi }) (now (memory .entry)) budget stop (now (journal .entry)) mark (now (block .exit)) (now (memory .exit)) (now (journal .exit)) a ⌝ }
+    ensures { λ a. ⌜ IbzRunPromise Keeping (now (block .entry)) (board-of (record { lo = lo; hi = hi }) (now (rom .entry))) (now (memory .entry)) budget stop (now (journal .entry)) mark (now (block .exit)) (now (memory .exit)) (now (journal .exit)) a ⌝ }
 {
     if block.len() != BLOCK_LENGTH {
         return RunAnswer {
@@ -160,7 +166,7 @@ pub extern "C" fn ibz_run_keeping(
     }
     let mut slots = block::slots_in(block);
     let win = Window { lo, hi };
-    let a = keeping::run_keeping(&mut slots, win, memory, budget, stop, journal, mark);
+    let a = keeping::run_keeping(&mut slots, win, memory, rom, budget, stop, journal, mark);
     block::put_block(block, &slots);
     a
 }
@@ -173,10 +179,11 @@ pub extern "C" fn ibz_undo(
     lo: u32,
     hi: u32,
     memory: &mut [u8],
+    rom: &[u8],
     journal: &[u8],
     mark: usize,
 ) -> UndoAnswer
-    ensures { λ a. ⌜ IbzUndoPromise (now (block .entry)) (record { lo = lo; hi = hi }) (now (memory .entry)) (now (journal .entry)) mark (now (block .exit)) (now (memory .exit)) a ⌝ }
+    ensures { λ a. ⌜ IbzUndoPromise (now (block .entry)) (board-of (record { lo = lo; hi = hi }) (now (rom .entry))) (now (memory .entry)) (now (journal .entry)) mark (now (block .exit)) (now (memory .exit)) a ⌝ }
 {
     if block.len() != BLOCK_LENGTH {
         return UndoAnswer {
@@ -186,7 +193,7 @@ pub extern "C" fn ibz_undo(
     }
     let mut slots = block::slots_in(block);
     let win = Window { lo, hi };
-    let a = machine::undo(&mut slots, win, memory, journal, mark);
+    let a = machine::undo(&mut slots, win, memory, rom, journal, mark);
     block::put_block(block, &slots);
     a
 }
@@ -199,11 +206,12 @@ pub extern "C" fn ibz_try(
     lo: u32,
     hi: u32,
     memory: &mut [u8],
+    rom: &[u8],
     count: u32,
     journal: &mut [u8],
     mark: usize,
 ) -> TryAnswer
-    ensures { λ a. ⌜ IbzTryPromise (now (block .entry)) (record { lo = lo; hi = hi }) (now (memory .entry)) count (now (journal .entry)) mark (now (block .exit)) (now (memory .exit)) (now (journal .exit)) a ⌝ }
+    ensures { λ a. ⌜ IbzTryPromise (now (block .entry)) (board-of (record { lo = lo; hi = hi }) (now (rom .entry))) (now (memory .entry)) count (now (journal .entry)) mark (now (block .exit)) (now (memory .exit)) (now (journal .exit)) a ⌝ }
 {
     if block.len() != BLOCK_LENGTH {
         return TryAnswer {
@@ -216,7 +224,7 @@ pub extern "C" fn ibz_try(
     }
     let mut slots = block::slots_in(block);
     let win = Window { lo, hi };
-    let a = tries::try_pattern(&mut slots, win, memory, count, journal, mark);
+    let a = tries::try_pattern(&mut slots, win, memory, rom, count, journal, mark);
     block::put_block(block, &slots);
     a
 }
@@ -227,13 +235,14 @@ pub extern "C" fn ibz_take_back(
     lo: u32,
     hi: u32,
     memory: &mut [u8],
+    rom: &[u8],
     journal: &[u8],
     mark: usize,
     steps: u32,
     old_lo: u32,
     old_hi: u32,
 ) -> BackAnswer
-    ensures { λ a. ⌜ IbzBackPromise (now (block .entry)) (record { lo = lo; hi = hi }) (now (memory .entry)) (now (journal .entry)) mark steps (record { lo = «old_lo»; hi = «old_hi» }) (now (block .exit)) (now (memory .exit)) a ⌝ }
+    ensures { λ a. ⌜ IbzBackPromise (now (block .entry)) (board-of (record { lo = lo; hi = hi }) (now (rom .entry))) (now (memory .entry)) (now (journal .entry)) mark steps (record { lo = «old_lo»; hi = «old_hi» }) (now (block .exit)) (now (memory .exit)) a ⌝ }
 {
     if block.len() != BLOCK_LENGTH {
         return BackAnswer {
@@ -250,9 +259,24 @@ pub extern "C" fn ibz_take_back(
         lo: old_lo,
         hi: old_hi,
     };
-    let a = tries::take_back(&mut slots, win, memory, journal, mark, steps, old);
+    let a = tries::take_back(&mut slots, win, memory, rom, journal, mark, steps, old);
     block::put_block(block, &slots);
     a
+}
+
+// ---- the part of memory or of ROM that holds an address and a length: no state is lent, and no block is asked for
+
+#[no_mangle]
+pub extern "C" fn ibz_part<'a, 'b>(
+    memory: &'a [u8],
+    rom: &'a [u8],
+    address: u64,
+    length: u64,
+    number: &'b mut u32,
+) -> &'a [u8]
+    ensures { λ r. ⌜ PartPromise (memory .entry) (rom .entry) address length (now (number .exit)) r ⌝ }
+{
+    part::part(memory, rom, address, length, number)
 }
 
 // ---- form 2, for posting: no state is lent, and no block is asked for

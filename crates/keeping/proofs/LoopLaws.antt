@@ -10,7 +10,7 @@ use lib.ListN.{length}
 use lib.Dec.{ltb, leb, eqb}
 use borrow.Author.Tests.{leb-true, leb-false, ltb-true, ltb-false}
 use Rattle.codes.specs.Codes.{MostSteps}
-use Rattle.bus.specs.declared.Window.{Window}
+use Rattle.bus.specs.Bus.{Board}
 use Rattle.bank.specs.Bank.{pc-of, mode-of}
 use Rattle.record.specs.Limits.{byte-limit, longest-record}
 use Rattle.step.specs.Steps.{most-clocks, step-clocks}
@@ -23,11 +23,11 @@ use Rattle.calls.specs.declared.Manner.the-variants.{Keeping}
 use Rattle.calls.specs.Calls.{memory-fits, state-fits, step-taken, step-with-room, RunCall, ended, running}
 
 -- at the loop's head, n steps of c clocks done: what is left of the run gives its answer, and a step can be taken
-pub record Going (win : Window) (b stop : ℕ) (s₀ m₀ j₀ : List ℕ) (mark₀ : ℕ) (l₀ s m j : List ℕ) (mark : ℕ) (l : List ℕ) (n c : ℕ) : Type 0 where
+pub record Going (board : Board) (b stop : ℕ) (s₀ m₀ j₀ : List ℕ) (mark₀ : ℕ) (l₀ s m j : List ℕ) (mark : ℕ) (l : List ℕ) (n c : ℕ) : Type 0 where
   pub le : n ≤ b
   pub few : b ≤ MostSteps
   pub sum : c ≤ most-clocks * n
-  pub rest : running Keeping win (b - n) n c 0 0 stop s m j mark ≡ running Keeping win b 0 0 0 0 stop s₀ m₀ j₀ mark₀
+  pub rest : running Keeping board (b - n) n c 0 0 stop s m j mark ≡ running Keeping board b 0 0 0 0 stop s₀ m₀ j₀ mark₀
   pub state : state-fits s ≡ true
   pub memory : memory-fits m ≡ true
   pub same-memory : length m ≡ length m₀
@@ -36,16 +36,16 @@ pub record Going (win : Window) (b stop : ℕ) (s₀ m₀ j₀ : List ℕ) (mark
   pub room : byte-limit ≤ length l
   pub inside : mark ≤ length j
 
-pub going-start : (win : Window) (b stop : ℕ) (s m j : List ℕ) (mark : ℕ) (l : List ℕ) → memory-fits m ≡ true → mark ≤ length j → byte-limit ≤ length l → state-fits s ≡ true → b ≤ MostSteps → Going win b stop s m j mark l s m j mark l 0 0
-going-start win b stop s m j mark l f h k t few =
+pub going-start : (board : Board) (b stop : ℕ) (s m j : List ℕ) (mark : ℕ) (l : List ℕ) → memory-fits m ≡ true → mark ≤ length j → byte-limit ≤ length l → state-fits s ≡ true → b ≤ MostSteps → Going board b stop s m j mark l s m j mark l 0 0
+going-start board b stop s m j mark l f h k t few =
     record { le = omega arith; few = few; sum = omega arith; rest = (let e : b - 0 ≡ b = omega arith in rw e); state = t; memory = f; same-memory = refl; same-journal = refl; same-log = refl; room = k; inside = h }
 
-module _ {win : Window} {b stop : ℕ} {s₀ m₀ j₀ : List ℕ} {mark₀ : ℕ} {l₀ s m j : List ℕ} {mark : ℕ} {l : List ℕ} {n c : ℕ}
-    (i : Going win b stop s₀ m₀ j₀ mark₀ l₀ s m j mark l n c) where
+module _ {board : Board} {b stop : ℕ} {s₀ m₀ j₀ : List ℕ} {mark₀ : ℕ} {l₀ s m j : List ℕ} {mark : ℕ} {l : List ℕ} {n c : ℕ}
+    (i : Going board b stop s₀ m₀ j₀ mark₀ l₀ s m j mark l n c) where
   -- the run gives what is there now, and reason k
   abbrev Gives : ℕ → Type 0
   Gives k =
-      let o = running Keeping win b 0 0 0 0 stop s₀ m₀ j₀ mark₀ in
+      let o = running Keeping board b 0 0 0 0 stop s₀ m₀ j₀ mark₀ in
       let a : RunAnswer = record { number = 0; reason = k; mark = mark; steps = n; clocks = c; moved = 0; dropped = 0 } in
       (s ≡ o .s) × ((m ≡ o .m) × ((j ≡ o .j) × ((a ≡ o .a) × Ends b s m₀ m j₀ j l₀ l a)))
 
@@ -53,13 +53,13 @@ module _ {win : Window} {b stop : ℕ} {s₀ m₀ j₀ : List ℕ} {mark₀ : �
   goes-on = record { state = i .state; memory = i .memory; same-memory = i .same-memory; same-journal = i .same-journal; same-log = i .same-log; inside = i .inside }
 
   gives-full : (k : ℕ) → (k ≡ 4 → FoundFull b s j (record { number = 0; reason = k; mark = mark; steps = n; clocks = c; moved = 0; dropped = 0 }))
-      → ended k n c 0 0 s m j mark ≡ running Keeping win b 0 0 0 0 stop s₀ m₀ j₀ mark₀ → Gives k
+      → ended k n c 0 0 s m j mark ≡ running Keeping board b 0 0 0 0 stop s₀ m₀ j₀ mark₀ → Gives k
   gives-full k f e =
       let goes : Ends b s m₀ m j₀ j l₀ l (record { number = 0; reason = k; mark = mark; steps = n; clocks = c; moved = 0; dropped = 0 }) =
       record { goes = goes-on; few = i .le; sum = i .sum; full = f } in
       (ap (λ (o : RunCall). o .s) e, (ap (λ (o : RunCall). o .m) e, (ap (λ (o : RunCall). o .j) e, (ap (λ (o : RunCall). o .a) e, goes))))
 
-  gives : (k : ℕ) → (k ≡ 4 → ⊥) → ended k n c 0 0 s m j mark ≡ running Keeping win b 0 0 0 0 stop s₀ m₀ j₀ mark₀ → Gives k
+  gives : (k : ℕ) → (k ≡ 4 → ⊥) → ended k n c 0 0 s m j mark ≡ running Keeping board b 0 0 0 0 stop s₀ m₀ j₀ mark₀ → Gives k
   gives k f e = gives-full k (λ q. absurd (f q)) e
 
   pub going-spent : leb b n ≡ true → Gives 1
@@ -67,21 +67,21 @@ module _ {win : Window} {b stop : ℕ} {s₀ m₀ j₀ : List ℕ} {mark₀ : �
   going-spent p = let z : b - n ≡ 0 = (let h : b ≤ n = leb-true b n p in omega arith) in gives 1 (λ q. omega arith) (rw z at (i .rest))
 
   -- the sum with one more step's clocks
-  summed : (a : StepAnswer) → a ≡ step-taken win s m 0 0 j mark .a → c + a .clocks ≤ most-clocks * (n + 1)
+  summed : (a : StepAnswer) → a ≡ step-taken board s m 0 0 j mark .a → c + a .clocks ≤ most-clocks * (n + 1)
   unfolding step-taken
   summed a e =
-      let q : a .clocks ≡ step-clocks win s m 0 0 = ap (λ (a : StepAnswer). a .clocks) e in
-      omega (arith, q, i .sum, largest-step win s m 0 0)
+      let q : a .clocks ≡ step-clocks board s m 0 0 = ap (λ (a : StepAnswer). a .clocks) e in
+      omega (arith, q, i .sum, largest-step board s m 0 0)
 
   -- it fits 32 bits
-  pub going-sum : leb b n ≡ false → (a : StepAnswer) → a ≡ step-taken win s m 0 0 j mark .a → c + a .clocks < 2 ^ 32
+  pub going-sum : leb b n ≡ false → (a : StepAnswer) → a ≡ step-taken board s m 0 0 j mark .a → c + a .clocks < 2 ^ 32
   going-sum p a e = let h : n < b = leb-false b n p in omega (arith, summed a e, i .few)
 
   module _ (p : leb b n ≡ false) where
     more : b - n ≡ suc (b - (n + 1))
     more = let h : n < b = leb-false b n p in omega arith
 
-    now-left : running Keeping win (suc (b - (n + 1))) n c 0 0 stop s m j mark ≡ running Keeping win b 0 0 0 0 stop s₀ m₀ j₀ mark₀
+    now-left : running Keeping board (suc (b - (n + 1))) n c 0 0 stop s m j mark ≡ running Keeping board b 0 0 0 0 stop s₀ m₀ j₀ mark₀
     now-left = rw more at (i .rest)
 
     pub going-halted : eqb (mode-of s) 2 ≡ true → Gives 2
@@ -105,17 +105,17 @@ module _ {win : Window} {b stop : ℕ} {s₀ m₀ j₀ : List ℕ} {mark₀ : �
           unfolding running
           going-there h = gives 5 (λ q. omega arith) (rw (h2, h3, h4, h) at now-left)
 
-          module _ (h5 : eqb (pc-of s) stop ≡ false) (s₁ m₁ j₁ l₁ : List ℕ) (a : StepAnswer) (e1 : s₁ ≡ step-taken win s m 0 0 j mark .s) (e2 : m₁ ≡ step-taken win s m 0 0 j mark .m)
-              (e3 : j₁ ≡ step-taken win s m 0 0 j mark .j) (e4 : a ≡ step-taken win s m 0 0 j mark .a) (g : GoesOn s₁ m m₁ j j₁ l l₁ (a .mark)) where
-            going-rest : running Keeping win (b - (n + 1)) (n + 1) (c + a .clocks) 0 0 stop s₁ m₁ j₁ (a .mark) ≡ running Keeping win b 0 0 0 0 stop s₀ m₀ j₀ mark₀
+          module _ (h5 : eqb (pc-of s) stop ≡ false) (s₁ m₁ j₁ l₁ : List ℕ) (a : StepAnswer) (e1 : s₁ ≡ step-taken board s m 0 0 j mark .s) (e2 : m₁ ≡ step-taken board s m 0 0 j mark .m)
+              (e3 : j₁ ≡ step-taken board s m 0 0 j mark .j) (e4 : a ≡ step-taken board s m 0 0 j mark .a) (g : GoesOn s₁ m m₁ j j₁ l l₁ (a .mark)) where
+            going-rest : running Keeping board (b - (n + 1)) (n + 1) (c + a .clocks) 0 0 stop s₁ m₁ j₁ (a .mark) ≡ running Keeping board b 0 0 0 0 stop s₀ m₀ j₀ mark₀
             unfolding running step-with-room
             going-rest =
-                let t = step-taken win s m 0 0 j mark in
-                let q : running Keeping win (b - (n + 1)) (n + 1) (c + t .a .clocks) 0 0 stop (t .s) (t .m) (t .j) (t .a .mark) ≡ running Keeping win b 0 0 0 0 stop s₀ m₀ j₀ mark₀ =
+                let t = step-taken board s m 0 0 j mark in
+                let q : running Keeping board (b - (n + 1)) (n + 1) (c + t .a .clocks) 0 0 stop (t .s) (t .m) (t .j) (t .a .mark) ≡ running Keeping board b 0 0 0 0 stop s₀ m₀ j₀ mark₀ =
                 rw (h2, h3, h4, h5) at now-left in
                 rw (e1, e2, e3, e4) q
 
-            pub going-again : Going win b stop s₀ m₀ j₀ mark₀ l₀ s₁ m₁ j₁ (a .mark) l₁ (n + 1) (c + a .clocks)
+            pub going-again : Going board b stop s₀ m₀ j₀ mark₀ l₀ s₁ m₁ j₁ (a .mark) l₁ (n + 1) (c + a .clocks)
             going-again =
                 record {
                   le = (let h : n < b = leb-false b n p in omega arith);

@@ -1,10 +1,11 @@
 // lib.rt - step and run in the manner that keeps all records: where the journal is full no step is taken. No call has a `requires`.
 // Means: Calls and Promises of the crate calls at Keeping, where the theorems stand.  Laws: proofs/CallLaws.antt, proofs/LoopLaws.antt.
-// Uses: codes, bits, bus, record, calls, answers, taken.  Source: [01 Calls and what they give back], [01 The journal], [K2], [K5], [K7].
+// Uses: codes, bits, bus, record, calls, answers, taken.  Source: [01 Calls and what they give back], [01 The journal], [K2], [K5], [K7], [K10].
 ghost use mathlib.Core.Path.{_≡_};
 ghost use mathlib.Core.Bool.{true};
 ghost use Prim.Native.Nat.{_≤_};
 ghost use lib.ListN.{length};
+ghost use Rattle.bus.specs.Bus.{board-of};
 ghost use Rattle.codes.specs.Codes.{MostSteps};
 ghost use Rattle.record.specs.Limits.{byte-limit};
 ghost use Rattle.calls.specs.Calls.{memory-fits, state-fits, running};
@@ -26,14 +27,15 @@ pub fn step_keeping(
     slots: &mut [u32; SLOTS],
     win: Window,
     memory: &mut [u8],
+    rom: &[u8],
     level: u32,
     vector: u8,
     journal: &mut [u8],
     mark: usize,
 ) -> StepAnswer
-    ensures { λ a. ⌜ StepPromise Keeping win (now (slots .entry)) (now (memory .entry)) level vector (now (journal .entry)) mark (now (slots .exit)) (now (memory .exit)) (now (journal .exit)) a ⌝ }
+    ensures { λ a. ⌜ StepPromise Keeping (board-of win (now (rom .entry))) (now (slots .entry)) (now (memory .entry)) level vector (now (journal .entry)) mark (now (slots .exit)) (now (memory .exit)) (now (journal .exit)) a ⌝ }
 {
-    let number = answers::step_number(Manner::Keeping, slots, win, memory, level, journal, mark);
+    let number = answers::step_number(Manner::Keeping, slots, win, memory, rom, level, journal, mark);
     let good = number == 0;
     if good {
         let mut log = [0u64; BYTE_LIMIT];
@@ -41,6 +43,7 @@ pub fn step_keeping(
             slots,
             win,
             memory,
+            rom,
             level,
             bits::wide(vector),
             journal,
@@ -64,6 +67,7 @@ pub fn running(
     slots: &mut [u32; SLOTS],
     win: Window,
     memory: &mut [u8],
+    rom: &[u8],
     budget: u32,
     stop: u32,
     journal: &mut [u8],
@@ -71,10 +75,10 @@ pub fn running(
     log: &mut [u64],
 ) -> RunAnswer
     requires { ⌜ (memory-fits (now memory) ≡ true) × (mark ≤ length (now journal)) × (byte-limit ≤ length (now log)) × (state-fits (now slots) ≡ true) × (budget ≤ MostSteps) ⌝ }
-    ensures { λ _. ⌜ now (slots .exit) ≡ running Keeping win budget 0 0 0 0 stop (now (slots .entry)) (now (memory .entry)) (now (journal .entry)) mark .s ⌝ }
-    ensures { λ _. ⌜ now (memory .exit) ≡ running Keeping win budget 0 0 0 0 stop (now (slots .entry)) (now (memory .entry)) (now (journal .entry)) mark .m ⌝ }
-    ensures { λ _. ⌜ now (journal .exit) ≡ running Keeping win budget 0 0 0 0 stop (now (slots .entry)) (now (memory .entry)) (now (journal .entry)) mark .j ⌝ }
-    ensures { λ a. ⌜ a ≡ running Keeping win budget 0 0 0 0 stop (now (slots .entry)) (now (memory .entry)) (now (journal .entry)) mark .a ⌝ }
+    ensures { λ _. ⌜ now (slots .exit) ≡ running Keeping (board-of win (now (rom .entry))) budget 0 0 0 0 stop (now (slots .entry)) (now (memory .entry)) (now (journal .entry)) mark .s ⌝ }
+    ensures { λ _. ⌜ now (memory .exit) ≡ running Keeping (board-of win (now (rom .entry))) budget 0 0 0 0 stop (now (slots .entry)) (now (memory .entry)) (now (journal .entry)) mark .m ⌝ }
+    ensures { λ _. ⌜ now (journal .exit) ≡ running Keeping (board-of win (now (rom .entry))) budget 0 0 0 0 stop (now (slots .entry)) (now (memory .entry)) (now (journal .entry)) mark .j ⌝ }
+    ensures { λ a. ⌜ a ≡ running Keeping (board-of win (now (rom .entry))) budget 0 0 0 0 stop (now (slots .entry)) (now (memory .entry)) (now (journal .entry)) mark .a ⌝ }
     ensures { λ a. ⌜ Ends budget (now (slots .exit)) (now (memory .entry)) (now (memory .exit)) (now (journal .entry)) (now (journal .exit)) (now (log .entry)) (now (log .exit)) a ⌝ }
 {
     let mut n: u32 = 0;
@@ -101,7 +105,7 @@ pub fn running(
         if there {
             break 5;
         }
-        let a = taken::step_taken(slots, win, memory, 0, 0, journal, m, log);
+        let a = taken::step_taken(slots, win, memory, rom, 0, 0, journal, m, log);
         m = a.mark;
         n += 1;
         c += a.clocks;
@@ -121,18 +125,19 @@ pub fn run_keeping(
     slots: &mut [u32; SLOTS],
     win: Window,
     memory: &mut [u8],
+    rom: &[u8],
     budget: u32,
     stop: u32,
     journal: &mut [u8],
     mark: usize,
 ) -> RunAnswer
-    ensures { λ a. ⌜ RunPromise Keeping win (now (slots .entry)) (now (memory .entry)) budget stop (now (journal .entry)) mark (now (slots .exit)) (now (memory .exit)) (now (journal .exit)) a ⌝ }
+    ensures { λ a. ⌜ RunPromise Keeping (board-of win (now (rom .entry))) (now (slots .entry)) (now (memory .entry)) budget stop (now (journal .entry)) mark (now (slots .exit)) (now (memory .exit)) (now (journal .exit)) a ⌝ }
 {
-    let number = answers::run_number(slots, win, memory, budget, journal, mark);
+    let number = answers::run_number(slots, win, memory, rom, budget, journal, mark);
     let good = number == 0;
     if good {
         let mut log = [0u64; BYTE_LIMIT];
-        return running(slots, win, memory, budget, stop, journal, mark, &mut log);
+        return running(slots, win, memory, rom, budget, stop, journal, mark, &mut log);
     }
     RunAnswer {
         number,

@@ -1,7 +1,8 @@
 // lib.rt - the calls of the machine: reset, step, run and undo, with their refusals. No call has a `requires`. Where the journal is full,
 // step and run drop its oldest records; those that keep all of them are step_keeping and run_keeping of the crate keeping.
 // Means: Calls and Promises of the crate calls, step and run at Dropping.  Laws: proofs/CallLaws.antt, proofs/FirstLaws.antt.
-// Uses: codes, bits, bus, record, undo, oldest, calls, answers, taken, keeping, full.  Source: [01 Calls and what they give back], [K2], [K5], [K7].
+// Uses: codes, bits, bus, record, undo, oldest, calls, answers, taken, keeping, full.  Source: [01 Calls and what they give back], [K2], [K5], [K7], [K10].
+ghost use Rattle.bus.specs.Bus.{board-of};
 ghost use Rattle.calls.specs.declared.Manner.the-variants.{Dropping};
 ghost use Rattle.calls.specs.Promises.{ResetPromise, StepPromise, RunPromise, UndoPromise};
 use bus::Window;
@@ -15,12 +16,13 @@ use keeping::NO_CLOCKS;
 use record::limits::BYTE_LIMIT;
 use record::limits::LONGEST_RECORD;
 
-// Reset. It does not write memory. The window that it gives is all of memory.
-pub fn reset(slots: &mut [u32; SLOTS], memory: &[u8]) -> ResetAnswer
-    ensures { λ a. ⌜ ResetPromise (now (memory .entry)) (now (slots .exit)) a ⌝ }
+// Reset. It does not write memory. The window that it gives is all of memory, with a ROM too.
+pub fn reset(slots: &mut [u32; SLOTS], memory: &[u8], rom: &[u8]) -> ResetAnswer
+    ensures { λ a. ⌜ ResetPromise (now (memory .entry)) (now (rom .entry)) (now (slots .exit)) a ⌝ }
 {
-    let fits = answers::memory_fits(memory);
-    if fits {
+    let number = answers::reset_number(memory, rom);
+    let good = number == 0;
+    if good {
         let n = answers::reset_slots(memory);
         *slots = n;
         return ResetAnswer {
@@ -32,7 +34,7 @@ pub fn reset(slots: &mut [u32; SLOTS], memory: &[u8]) -> ResetAnswer
     let n = answers::refused_slots();
     *slots = n;
     ResetAnswer {
-        number: 1,
+        number,
         lo: 0,
         hi: 0,
     }
@@ -43,14 +45,15 @@ pub fn step(
     slots: &mut [u32; SLOTS],
     win: Window,
     memory: &mut [u8],
+    rom: &[u8],
     level: u32,
     vector: u8,
     journal: &mut [u8],
     mark: usize,
 ) -> StepAnswer
-    ensures { λ a. ⌜ StepPromise Dropping win (now (slots .entry)) (now (memory .entry)) level vector (now (journal .entry)) mark (now (slots .exit)) (now (memory .exit)) (now (journal .exit)) a ⌝ }
+    ensures { λ a. ⌜ StepPromise Dropping (board-of win (now (rom .entry))) (now (slots .entry)) (now (memory .entry)) level vector (now (journal .entry)) mark (now (slots .exit)) (now (memory .exit)) (now (journal .exit)) a ⌝ }
 {
-    let number = answers::step_number(Manner::Dropping, slots, win, memory, level, journal, mark);
+    let number = answers::step_number(Manner::Dropping, slots, win, memory, rom, level, journal, mark);
     let good = number == 0;
     if good {
         let size = taken::bytes(journal);
@@ -71,6 +74,7 @@ pub fn step(
             slots,
             win,
             memory,
+            rom,
             level,
             bits::wide(vector),
             journal,
@@ -101,24 +105,26 @@ pub fn run(
     slots: &mut [u32; SLOTS],
     win: Window,
     memory: &mut [u8],
+    rom: &[u8],
     budget: u32,
     stop: u32,
     journal: &mut [u8],
     mark: usize,
 ) -> RunAnswer
-    ensures { λ a. ⌜ RunPromise Dropping win (now (slots .entry)) (now (memory .entry)) budget stop (now (journal .entry)) mark (now (slots .exit)) (now (memory .exit)) (now (journal .exit)) a ⌝ }
+    ensures { λ a. ⌜ RunPromise Dropping (board-of win (now (rom .entry))) (now (slots .entry)) (now (memory .entry)) budget stop (now (journal .entry)) mark (now (slots .exit)) (now (memory .exit)) (now (journal .exit)) a ⌝ }
 {
-    let number = answers::run_number(slots, win, memory, budget, journal, mark);
+    let number = answers::run_number(slots, win, memory, rom, budget, journal, mark);
     let good = number == 0;
     if good {
         let mut log = [0u64; BYTE_LIMIT];
-        let a = keeping::running(slots, win, memory, budget, stop, journal, mark, &mut log);
+        let a = keeping::running(slots, win, memory, rom, budget, stop, journal, mark, &mut log);
         let full = (a.reason == 4) & (LONGEST_RECORD <= journal.len());
         if full {
             return full::running_full(
                 slots,
                 win,
                 memory,
+                rom,
                 budget,
                 stop,
                 journal,
@@ -145,12 +151,13 @@ pub fn undo(
     slots: &mut [u32; SLOTS],
     win: Window,
     memory: &mut [u8],
+    rom: &[u8],
     journal: &[u8],
     mark: usize,
 ) -> UndoAnswer
-    ensures { λ a. ⌜ UndoPromise win (now (slots .entry)) (now (memory .entry)) (now (journal .entry)) mark (now (slots .exit)) (now (memory .exit)) a ⌝ }
+    ensures { λ a. ⌜ UndoPromise (board-of win (now (rom .entry))) (now (slots .entry)) (now (memory .entry)) (now (journal .entry)) mark (now (slots .exit)) (now (memory .exit)) a ⌝ }
 {
-    let number = answers::undo_number(slots, win, memory, journal, mark);
+    let number = answers::undo_number(slots, win, memory, rom, journal, mark);
     let good = number == 0;
     if good {
         let a = undo::undo(slots, memory, journal, mark);

@@ -5,7 +5,7 @@ use Prim.Native.Nat.{ℕ, zero, suc, _+_, _*_, _%_, _/_, _<_, _≤_, _^_}
 use native.Mathlib.Omega.{arith}
 use native.Mathlib.Nat.{mul-le-mul-right}
 use mathlib.Core.Path.{_≡_, refl, sym, ap, _∙_}
-use mathlib.Core.Bool.{Bool, true, false, _&&_}
+use mathlib.Core.Bool.{Bool, true, false, _&&_, _||_}
 use mathlib.Core.List.{List, [], _∷_, _++_}
 use lib.ListN.{length}
 use lib.Dec.{ltb, leb, eqb}
@@ -14,7 +14,7 @@ use borrow.Author.Tests.{eqb-true, eqb-false, eq-eqb, ne-eqb, ltb-true, leb-true
 use Rattle.bits.specs.Bits.{plus, minus}
 use Rattle.bits.proofs.BitsLaws.{and-left, and-right}
 use Rattle.bits.proofs.OnesLaws.{ones-bound, ones-low}
-use Rattle.bus.specs.Bus.{View, part, view-of, pins}
+use Rattle.bus.specs.Bus.{View, part, rom-of, view-of, pins}
 use Rattle.plan.specs.declared.Plan.{Plan}
 use Rattle.movem.specs.declared.Way.{Way}
 use Rattle.movem.specs.Movem.{room-way, mirrored, put-way, block-room}
@@ -24,6 +24,9 @@ use Rattle.movem.proofs.OrderLaws.{Words, block-room-when-writable}
 
 both : {a b : Bool} → a ≡ true → b ≡ true → (a && b) ≡ true
 both e g = rw (e, g)
+
+either : {a : Bool} (b : Bool) → a ≡ true → (a || b) ≡ true
+either b e = rw e
 
 all-append : (v : View) (us bs : List ℕ) → all-writable v us ≡ true → all-writable v bs ≡ true → all-writable v (us ++ bs) ≡ true
 all-append v [] bs h g = g
@@ -75,7 +78,7 @@ module _ (q : List (List ℕ)) where
   word-writable : (a : ℕ) → pins a % 2 ≡ 0 → lo ≤ pins a → pins a + 2 ≤ hi → writable (view-of q) a ≡ true
   unfolding view-of
   word-writable a e g h =
-      both (eq-eqb (pins a % 2) 0 e) (both (le-leb lo (pins a) g) (lt-ltb (pins a + 1) hi (omega arith)))
+      both (eq-eqb (pins a % 2) 0 e) (either (rom-of q .word-free (pins a)) (both (le-leb lo (pins a) g) (lt-ltb (pins a + 1) hi (omega arith))))
 
   part-writable : (k : ℕ) → k < 2 → (a : ℕ) → pins a % 2 ≡ 0 → lo ≤ pins a → pins a + 2 * (1 + k) ≤ hi → pins a + 2 * (1 + k) ≤ 16777216
       → all-writable (view-of q) (part-words (1 + k) a) ≡ true

@@ -83,10 +83,10 @@ block-asks v p h =
 room-when-writable : (v : View) (a : ℕ) (f : Flow) → writable v a ≡ true → room v a 1 f ≡ f
 unfolding room read-sized read-word by-size
 room-when-writable v a f h =
-    let even = eqb-true (pins a % 2) 0 (and-left (eqb (pins a % 2) 0) (v .word-ok (pins a)) h) in
-    go (eqb (f .bad) 0) refl (ne-eqb (pins a % 2) 1 (omega arith)) (and-right (eqb (pins a % 2) 0) (v .word-ok (pins a)) h)
+    let even = eqb-true (pins a % 2) 0 (and-left (eqb (pins a % 2) 0) (v .word-free (pins a)) h) in
+    go (eqb (f .bad) 0) refl (ne-eqb (pins a % 2) 1 (omega arith)) (and-right (eqb (pins a % 2) 0) (v .word-free (pins a)) h)
   where
-    go : (b : Bool) → eqb (f .bad) 0 ≡ b → eqb (pins a % 2) 1 ≡ false → v .word-ok (pins a) ≡ true → room v a 1 f ≡ f
+    go : (b : Bool) → eqb (f .bad) 0 ≡ b → eqb (pins a % 2) 1 ≡ false → v .word-free (pins a) ≡ true → room v a 1 f ≡ f
     go true e odd there = cc
     go false e odd there = cc
 
@@ -102,7 +102,7 @@ room-when-unwritable v a f h n = go (eqb (pins a % 2) 1) refl (eq-eqb (f .bad) 0
     go true e clean = cc
     go false e clean =
         let even : eqb (pins a % 2) 0 ≡ true = eq-eqb (pins a % 2) 0 (omega (arith, eqb-false (pins a % 2) 1 e)) in
-        let out : v .word-ok (pins a) ≡ false = rw even at n in cc
+        let out : v .word-free (pins a) ≡ false = rw even at n in cc
 
 -- ---- all of them
 asked-when-writable : (v : View) (us : List ℕ) (f : Flow) → all-writable v us ≡ true → asked v us f ≡ f

@@ -24,7 +24,14 @@ fresh = record { pc = 0; sr = 0x2000; bad = 0 }
 
 -- 4,096 bytes of zeros  [ours]
 abbrev zeros : View
-zeros = record { byte-ok = λ a. ltb a 4096; word-ok = λ a. ltb (a + 1) 4096; byte = λ a. 0; word = λ a. 0 }
+zeros = record {
+  byte-ok = λ a. ltb a 4096;
+  word-ok = λ a. ltb (a + 1) 4096;
+  byte = λ a. 0;
+  word = λ a. 0;
+  byte-free = λ a. ltb a 4096;
+  word-free = λ a. ltb (a + 1) 4096;
+}
 
 -- the fault of a block of longs to -(A0) with A7 and A6, or with none  [ours]
 abbrev fault-down : ℕ → ℕ → ℕ

@@ -29,7 +29,7 @@ block-words p = let w = room-way p in words-along (w .size) (w .step) (w .start)
 
 -- whether a word can be written: its address is even, and it is wholly there  [003 4.4.10] [003 4.4.9] [01 step 6]
 abbrev pub writable : View → ℕ → Bool
-writable v a = eqb (pins a % 2) 0 && v .word-ok (pins a)
+writable v a = eqb (pins a % 2) 0 && v .word-free (pins a)
 
 -- whether each of them can  [01 step 6]
 abbrev pub all-writable : View → List ℕ → Bool

@@ -16,7 +16,7 @@ use Rattle.bits.specs.Bits.{plus, minus}
 use Rattle.bits.proofs.BitsLaws.{and-left, and-right}
 use Rattle.flags.specs.Flags.{condition}
 use Rattle.bus.specs.declared.Flow.{Flow}
-use Rattle.bus.specs.declared.Window.{Window}
+use Rattle.bus.specs.Bus.{Board}
 use Rattle.bus.specs.Bus.{View, all-of, packed, information, fault-address, fault-information}
 use Rattle.plan.specs.declared.Plan.{Plan}
 use Rattle.plan.specs.Plans.{Done, jump, push}
@@ -110,54 +110,54 @@ module _ (s m : List ℕ) (op to : ℕ) where
       let y = information-is in
       cc
 
-module _ (j : Nine) (win : Window) (s m : List ℕ) (level vector : ℕ) (h : OddJump j win s m level) where
+module _ (j : Nine) (board : Board) (s m : List ℕ) (level vector : ℕ) (h : OddJump j board s m level) where
   abbrev op : ℕ
-  op = word-at-pc win s m .value
+  op = word-at-pc board s m .value
 
   abbrev to : ℕ
-  to = leads-from j win s m .target
+  to = leads-from j board s m .target
 
   abbrev plan : Plan
-  plan = execute (bank s) (sight win s m) op (word-at-pc win s m .flow) .p
+  plan = execute (bank s) (sight board s m) op (word-at-pc board s m .flow) .p
 
   abbrev tried : Attempt
-  tried = attempt (bank s) (sight win s m) (fresh (pc-of s) (sr-of s))
+  tried = attempt (bank s) (sight board s m) (fresh (pc-of s) (sr-of s))
 
   -- the jump fails, with the SR before it
-  jump-fails : jump (leads-from j win s m .flow) to .bad ≡ blame s to
+  jump-fails : jump (leads-from j board s m .flow) to .bad ≡ blame s to
   unfolding jump
   jump-fails =
-      let f = leads-from j win s m .flow in
+      let f = leads-from j board s m .flow in
       let x : eqb (f .bad) 0 ≡ true = eq-eqb (f .bad) 0 (h .clean) in
       let y : eqb (to % 2) 1 ≡ true = eq-eqb (to % 2) 1 (h .odd) in
       let z : f .sr ≡ sr-of s =
-      leads-keeps-sr (sight win s m) j (bank s) op (word-at-pc win s m .flow) ∙ next-word-keeps-sr (sight win s m) (fresh (pc-of s) (sr-of s)) in
+      leads-keeps-sr (sight board s m) j (bank s) op (word-at-pc board s m .flow) ∙ next-word-keeps-sr (sight board s m) (fresh (pc-of s) (sr-of s)) in
       cc
 
-  executed : execute (bank s) (sight win s m) op (word-at-pc win s m .flow)
-      ≡ dispatch (kind j) (bank s) (sight win s m) op (word-at-pc win s m .flow)
+  executed : execute (bank s) (sight board s m) op (word-at-pc board s m .flow)
+      ≡ dispatch (kind j) (bank s) (sight board s m) op (word-at-pc board s m .flow)
   executed =
-      let f = word-at-pc win s m .flow in
-      let z : f .sr ≡ sr-of s = next-word-keeps-sr (sight win s m) (fresh (pc-of s) (sr-of s)) in
+      let f = word-at-pc board s m .flow in
+      let z : f .sr ≡ sr-of s = next-word-keeps-sr (sight board s m) (fresh (pc-of s) (sr-of s)) in
       let e = h .found in
       let a : (privileged (kind-of op) && eqb (f .sr / Supervisor % 2) 0) ≡ false = cc (h .allowed) in
-      execute-by (bank s) (sight win s m) op f (privileged (kind-of op)) (eqb (f .sr / Supervisor % 2) 0) refl refl a
-      ∙ ap (λ (i : ℕ). dispatch i (bank s) (sight win s m) op f) e
+      execute-by (bank s) (sight board s m) op f (privileged (kind-of op)) (eqb (f .sr / Supervisor % 2) 0) refl refl a
+      ∙ ap (λ (i : ℕ). dispatch i (bank s) (sight board s m) op f) e
 
   plan-fails : plan .flow .bad ≡ blame s to
   plan-fails =
-      ap (λ (d : Done). d .p .flow .bad) executed ∙ planned (bank s) (sight win s m) op (word-at-pc win s m .flow) j (h .made) .bad ∙ jump-fails
+      ap (λ (d : Done). d .p .flow .bad) executed ∙ planned (bank s) (sight board s m) op (word-at-pc board s m .flow) j (h .made) .bad ∙ jump-fails
 
   blame-some : eqb (blame s to) 0 ≡ false
   blame-some = ne-eqb (blame s to) 0 (λ e. omega (arith, e))
 
-  checked-fails : checked (sight win s m) plan .flow .bad ≡ blame s to
+  checked-fails : checked (sight board s m) plan .flow .bad ≡ blame s to
   checked-fails =
       let e : eqb (plan .flow .bad) 0 ≡ false = ap (λ (i : ℕ). eqb i 0) plan-fails ∙ blame-some in
       let k : (ltb (plan .write) NoWrite || eqb (plan .write) NoWrite) ≡ true =
       ap (λ (d : Done). ltb (d .p .write) NoWrite || eqb (d .p .write) NoWrite) executed
-      ∙ planned (bank s) (sight win s m) op (word-at-pc win s m .flow) j (h .made) .small in
-      checked-by (sight win s m) plan (eqb (plan .write) NoWrite) (ltb (plan .write) NoWrite) refl refl k e ∙ plan-fails
+      ∙ planned (bank s) (sight board s m) op (word-at-pc board s m .flow) j (h .made) .small in
+      checked-by (sight board s m) plan (eqb (plan .write) NoWrite) (ltb (plan .write) NoWrite) refl refl k e ∙ plan-fails
 
   tried-fails : tried .t .p .flow .bad ≡ blame s to
   unfolding attempt
@@ -176,20 +176,20 @@ module _ (j : Nine) (win : Window) (s m : List ℕ) (level vector : ℕ) (h : Od
       ∙ ap (λ (w : ℕ). fault s m (blame s to) w) tried-word
 
   -- the step is the fault, from the slots before it
-  pub fails : one-step win s m level vector ≡ fault s m (blame s to) op
+  pub fails : one-step board s m level vector ≡ fault s m (blame s to) op
   unfolding instruction
-  fails = sym (step-instruction win s m level vector (h .quiet) (eq-eqb (mode-of s) 0 (h .running))) ∙ concluded
+  fails = sym (step-instruction board s m level vector (h .quiet) (eq-eqb (mode-of s) 0 (h .running))) ∙ concluded
 
   -- its clocks, by its event x: c are those of an instruction that ends so
   timed : (x c : ℕ) → x ≡ fault s m (blame s to) op .event → ((b : Bool) (mode : ℕ) → c ≡ ended-clocks (tried .t) b x mode)
-      → c ≡ step-clocks win s m level vector
+      → c ≡ step-clocks board s m level vector
   timed x c e d =
       let o = conclude s m (tried .r) (tried .t) in
       let y : x ≡ o .event = e ∙ ap (λ (w : Stepped). w .event) (sym concluded) in
       let a =
       concluded-is s m (tried .r) (o .s) (tried .t) (tracing (sr-of s)) x c refl y refl (d (tracing (sr-of s)) (mode-of (o .s))) in
-      clocks-instruction win s m level vector c (h .quiet) (eq-eqb (mode-of s) 0 (h .running))
-      (instruction-clocks-is win s s m (bank s) (tried .r) (fresh (pc-of s) (sr-of s)) (tried .t) c refl refl refl refl a)
+      clocks-instruction board s m level vector c (h .quiet) (eq-eqb (mode-of s) 0 (h .running))
+      (instruction-clocks-is board s s m (bank s) (tried .r) (fresh (pc-of s) (sr-of s)) (tried .t) c refl refl refl refl a)
 
   -- the frame can be written and vector 3 is even, or not
   abbrev n : List ℕ
@@ -199,7 +199,7 @@ module _ (j : Nine) (win : Window) (s m : List ℕ) (level vector : ℕ) (h : Od
   unfolding big-ready can-enter
   ready-is = let e = frame-is s m op to in let v : blame s to % 4 ≡ 3 = omega arith in cc
 
-  halts : big-ready s m (blame s to) op ≡ false → Halts s m (one-step win s m level vector) (step-clocks win s m level vector)
+  halts : big-ready s m (blame s to) op ≡ false → Halts s m (one-step board s m level vector) (step-clocks board s m level vector)
   unfolding fault
   halts e =
       let f : fault s m (blame s to) op ≡ halted s m = cc in
@@ -208,7 +208,7 @@ module _ (j : Nine) (win : Window) (s m : List ℕ) (level vector : ℕ) (h : Od
         none = sym (timed 257 0 (sym (ap (λ (w : Stepped). w .event) f)) (λ b mode. ended-halts (tried .t) b 257 mode 0 refl faulted refl refl));
       }
 
-  blamed : big-ready s m (blame s to) op ≡ true → Blamed s n (one-step win s m level vector) (step-clocks win s m level vector)
+  blamed : big-ready s m (blame s to) op ≡ true → Blamed s n (one-step board s m level vector) (step-clocks board s m level vector)
   unfolding fault fault-taken enter exception-clocks
   blamed e =
       let a = minus (ssp-of s) 14 in
@@ -237,7 +237,7 @@ module _ (j : Nine) (win : Window) (s m : List ℕ) (level vector : ℕ) (h : Od
       }
 
   -- the theorem
-  pub odd-jumps : AsAsked s m n (one-step win s m level vector) (step-clocks win s m level vector)
+  pub odd-jumps : AsAsked s m n (one-step board s m level vector) (step-clocks board s m level vector)
   odd-jumps =
       record {
         taken =

@@ -9,7 +9,7 @@ use lib.Dec.{ltb, eqb}
 use borrow.Author.Tests.{eq-eqb}
 use Rattle.codes.specs.Codes.{Mask, TopLevel, event-of}
 use Rattle.bits.specs.Bits.{plus, minus}
-use Rattle.bus.specs.declared.Window.{Window}
+use Rattle.bus.specs.Bus.{Board}
 use Rattle.bus.specs.Bus.{View, all-of, fault-vector}
 use Rattle.bank.specs.Bank.{ssp-of, pc-of, sr-of}
 use Rattle.frames.specs.Frames.{small-frame, big-frame}
@@ -32,10 +32,10 @@ module _ (s m : List ℕ) (vec : ℕ) where
     unfolding exception small-ready
     odd-vector-halts sr = let k = not-entered (small-room (all-of m) (minus (ssp-of s) 6)) (all-of framed) vec e h in cc
 
-    pub odd-interrupt-halts : (win : Window) (level : ℕ) → (eqb level TopLevel || ltb (sr-of s / Mask % 8) level) ≡ true
-        → one-step win s m level vec ≡ halted s m
+    pub odd-interrupt-halts : (board : Board) (level : ℕ) → (eqb level TopLevel || ltb (sr-of s / Mask % 8) level) ≡ true
+        → one-step board s m level vec ≡ halted s m
     unfolding interrupt
-    odd-interrupt-halts win level t = sym (step-interrupted win s m level vec t) ∙ odd-vector-halts (interrupt-sr (sr-of s) level)
+    odd-interrupt-halts board level t = sym (step-interrupted board s m level vec t) ∙ odd-vector-halts (interrupt-sr (sr-of s) level)
 
   pub other-vector-taken : (sr : ℕ) → of-fault vec ≡ false → small-room (all-of m) (minus (ssp-of s) 6) ≡ true
       → exception s m vec sr ≡ record { s = enter s (all-of framed) (minus (ssp-of s) 6) vec sr; m = framed; event = event-of (vec % 256) }

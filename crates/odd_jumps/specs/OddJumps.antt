@@ -14,7 +14,7 @@ use Rattle.bits.specs.Bits.{plus, minus, sign-word}
 use Rattle.flags.specs.Flags.{condition}
 use Rattle.bus.specs.declared.Flow.{Flow}
 use Rattle.bus.specs.declared.Fetched.{Fetched}
-use Rattle.bus.specs.declared.Window.{Window}
+use Rattle.bus.specs.Bus.{Board}
 use Rattle.bus.specs.Bus.{View, all-of, next-word, information, put-word, put-long}
 use Rattle.operand.specs.declared.Operand.{Operand}
 use Rattle.operand.specs.Operands.{locate, source}
@@ -88,23 +88,23 @@ leads rtr r v op f = pulled-second r v f
 leads rte r v op f = pulled-second r v f
 
 -- the operation word at PC, and the flow behind it: what is read on the way is read through the window  [01 step 6] [K7]
-abbrev pub word-at-pc : Window → List ℕ → List ℕ → Fetched
-word-at-pc win s m = next-word (sight win s m) (fresh (pc-of s) (sr-of s))
+abbrev pub word-at-pc : Board → List ℕ → List ℕ → Fetched
+word-at-pc board s m = next-word (sight board s m) (fresh (pc-of s) (sr-of s))
 
 -- where the jump at PC leads  [ours]
-abbrev pub leads-from : Nine → Window → List ℕ → List ℕ → Leads
-leads-from j win s m = leads j (bank s) (sight win s m) (word-at-pc win s m .value) (word-at-pc win s m .flow)
+abbrev pub leads-from : Nine → Board → List ℕ → List ℕ → Leads
+leads-from j board s m = leads j (bank s) (sight board s m) (word-at-pc board s m .value) (word-at-pc board s m .flow)
 
 -- a step that makes a jump to an odd address: no interrupt is taken, the machine runs, one of the nine is at PC and is not refused, its jump is
 -- made, nothing failed on the way to its target, and that is odd, inside the window or not  [K3] [K7]
-pub record OddJump (j : Nine) (win : Window) (s m : List ℕ) (level : ℕ) : Type 0 where
+pub record OddJump (j : Nine) (board : Board) (s m : List ℕ) (level : ℕ) : Type 0 where
   pub quiet : (eqb level TopLevel || ltb (sr-of s / Mask % 8) level) ≡ false
   pub running : mode-of s ≡ Running
-  pub found : kind-of (word-at-pc win s m .value) ≡ kind j
+  pub found : kind-of (word-at-pc board s m .value) ≡ kind j
   pub allowed : (privileged (kind j) && eqb (sr-of s / Supervisor % 2) 0) ≡ false
-  pub made : leads-from j win s m .made ≡ true
-  pub clean : leads-from j win s m .flow .bad ≡ 0
-  pub odd : leads-from j win s m .target % 2 ≡ 1
+  pub made : leads-from j board s m .made ≡ true
+  pub clean : leads-from j board s m .flow .bad ≡ 0
+  pub odd : leads-from j board s m .target % 2 ≡ 1
 
 -- memory with the frame: from the lowest address the information word of a program read in the state before the jump, the target, the jump's
 -- operation word, SR as it was, and the jump's address plus 2  [003 4.4.9.1] [01 step 7] [K3]

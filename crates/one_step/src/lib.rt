@@ -1,12 +1,12 @@
 // lib.rt - one whole step: an interrupt that is taken, or one instruction, from its operation word to its end; a stopped machine; its clocks.
 // Means: specs/Steps.antt of the crate step, where the laws and the theorems stand; step has the end of an instruction too.
-// Uses: codes, bus, reach, plan, clocks, blocks, touch, bank, exception, execute, step.  Source: [003 4.1], [003 4.4.2], [01 One step], [K2], [K7].
+// Uses: codes, bus, reach, plan, clocks, blocks, touch, bank, exception, execute, step.  Source: [003 4.1], [003 4.4.2], [01 One step], [K2], [K7], [K10].
 ghost use mathlib.Core.Path.{_≡_};
 ghost use mathlib.Core.List.{map};
 ghost use Prim.Native.Nat.{_≤_, _<_};
 ghost use lib.ListN.{length};
 ghost use Rattle.bank.specs.Bank.{supervisor};
-ghost use Rattle.bus.specs.Bus.{seen-by, view-of};
+ghost use Rattle.bus.specs.Bus.{board-of, seen-by, view-of};
 ghost use Rattle.touch.specs.Touch.{LogOk, Noted};
 ghost use Rattle.step.specs.Steps.{plan-with-flow, checked, attempt, instruction, interrupt-sr, interrupt, one-step};
 ghost use Rattle.step.specs.Steps.{instruction-clocks, interrupt-clocks, step-clocks};
@@ -72,13 +72,19 @@ fn attempt(r: &mut [u32; SLOTS], mem: &Parts, f: Flow) -> Tried
     }
 }
 
-// The same over all of memory: it is lent what the state may see.
-fn lent_attempt<'a>(r: &mut [u32; SLOTS], win: Window, mem: &'a [u8], f: Flow) -> Tried
-    ensures { λ t. ⌜ record { r = now (r .exit); t = t } ≡ attempt (now (r .entry)) (seen-by (supervisor (f .sr)) win (now (mem .entry))) f ⌝ }
+// The same over all of memory and of the ROM: it is lent what the state may see.
+fn lent_attempt<'a>(
+    r: &mut [u32; SLOTS],
+    win: Window,
+    mem: &'a [u8],
+    rom: &'a [u8],
+    f: Flow,
+) -> Tried
+    ensures { λ t. ⌜ record { r = now (r .exit); t = t } ≡ attempt (now (r .entry)) (seen-by (supervisor (f .sr)) (board-of win (now (rom .entry))) (now (mem .entry))) f ⌝ }
     ensures { λ t. ⌜ t .clocks < 512 ⌝ }
 {
     let sup = bank::supervisor(f.sr);
-    let parts = reach::lent(sup, win, mem);
+    let parts = reach::lent(sup, win, mem, rom);
     attempt(r, &parts, f)
 }
 
@@ -88,20 +94,21 @@ fn instruction(
     before: &[u32; SLOTS],
     win: Window,
     mem: &mut [u8],
+    rom: &[u8],
     log: &mut [u64],
 ) -> Taken
     requires { ⌜ LogOk (now mem) (now log) 0 × (70 ≤ length (now log)) ⌝ }
     requires { ⌜ now before ≡ now s ⌝ }
-    ensures { λ _. ⌜ now (s .exit) ≡ instruction win (now (s .entry)) (now (mem .entry)) .s ⌝ }
-    ensures { λ _. ⌜ now (mem .exit) ≡ instruction win (now (s .entry)) (now (mem .entry)) .m ⌝ }
-    ensures { λ e. ⌜ e .event ≡ instruction win (now (s .entry)) (now (mem .entry)) .event ⌝ }
-    ensures { λ e. ⌜ e .clocks ≡ instruction-clocks win (now (s .entry)) (now (mem .entry)) ⌝ }
+    ensures { λ _. ⌜ now (s .exit) ≡ instruction (board-of win (now (rom .entry))) (now (s .entry)) (now (mem .entry)) .s ⌝ }
+    ensures { λ _. ⌜ now (mem .exit) ≡ instruction (board-of win (now (rom .entry))) (now (s .entry)) (now (mem .entry)) .m ⌝ }
+    ensures { λ e. ⌜ e .event ≡ instruction (board-of win (now (rom .entry))) (now (s .entry)) (now (mem .entry)) .event ⌝ }
+    ensures { λ e. ⌜ e .clocks ≡ instruction-clocks (board-of win (now (rom .entry))) (now (s .entry)) (now (mem .entry)) ⌝ }
     ensures { λ e. ⌜ Noted (now (mem .entry)) (now (log .entry)) 0 70 (now (mem .exit)) (now (log .exit)) (e .n) ⌝ }
 {
     let sr = s[codes::SR];
     let pc = s[codes::PC];
     bank::bank(s);
-    let t = lent_attempt(s, win, mem, exception::fresh(pc, sr));
+    let t = lent_attempt(s, win, mem, rom, exception::fresh(pc, sr));
     step::concluded(s, before, mem, log, t)
 }
 
@@ -147,17 +154,18 @@ pub fn one_step(
     before: &[u32; SLOTS],
     win: Window,
     mem: &mut [u8],
+    rom: &[u8],
     log: &mut [u64],
     level: u32,
     vector: u32,
 ) -> Taken
     requires { ⌜ LogOk (now mem) (now log) 0 × (70 ≤ length (now log)) ⌝ }
     requires { ⌜ now before ≡ now s ⌝ }
-    ensures { λ _. ⌜ now (s .exit) ≡ one-step win (now (s .entry)) (now (mem .entry)) level vector .s ⌝ }
-    ensures { λ _. ⌜ now (mem .exit) ≡ one-step win (now (s .entry)) (now (mem .entry)) level vector .m ⌝ }
-    ensures { λ e. ⌜ e .event ≡ one-step win (now (s .entry)) (now (mem .entry)) level vector .event ⌝ }
+    ensures { λ _. ⌜ now (s .exit) ≡ one-step (board-of win (now (rom .entry))) (now (s .entry)) (now (mem .entry)) level vector .s ⌝ }
+    ensures { λ _. ⌜ now (mem .exit) ≡ one-step (board-of win (now (rom .entry))) (now (s .entry)) (now (mem .entry)) level vector .m ⌝ }
+    ensures { λ e. ⌜ e .event ≡ one-step (board-of win (now (rom .entry))) (now (s .entry)) (now (mem .entry)) level vector .event ⌝ }
     ensures { λ e. ⌜ Noted (now (mem .entry)) (now (log .entry)) 0 70 (now (mem .exit)) (now (log .exit)) (e .n) ⌝ }
-    ensures { λ e. ⌜ e .clocks ≡ step-clocks win (now (s .entry)) (now (mem .entry)) level vector ⌝ }
+    ensures { λ e. ⌜ e .clocks ≡ step-clocks (board-of win (now (rom .entry))) (now (s .entry)) (now (mem .entry)) level vector ⌝ }
 {
     let mask = s[codes::SR] / codes::MASK % 8;
     let taken = (level == codes::TOP_LEVEL) | (mask < level);
@@ -171,7 +179,7 @@ pub fn one_step(
     }
     let running = s[codes::MODE] == codes::RUNNING;
     if running {
-        return instruction(s, before, win, mem, log);
+        return instruction(s, before, win, mem, rom, log);
     }
     Taken {
         n: 0,

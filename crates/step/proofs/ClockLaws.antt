@@ -7,7 +7,7 @@ use mathlib.Core.Bool.{Bool, true, false, _&&_, _||_, not}
 use mathlib.Core.List.{List}
 use lib.Dec.{ltb, eqb}
 use Rattle.bus.specs.declared.Flow.{Flow}
-use Rattle.bus.specs.declared.Window.{Window}
+use Rattle.bus.specs.Bus.{Board}
 use Rattle.bus.specs.Bus.{seen-by}
 use Rattle.bank.specs.Bank.{pc-of, sr-of, mode-of, tracing, bank, supervisor}
 use Rattle.exception.specs.Exceptions.{fresh}
@@ -68,10 +68,10 @@ unfolding concluded-clocks
 concluded-is s m r s₁ t b x n e1 e2 e3 e4 = cc
 
 -- s₁ is the second loan of the slots s
-pub instruction-clocks-is : (win : Window) (s s₁ m r₀ r : List ℕ) (f : Flow) (t : Tried) (n : ℕ) → s₁ ≡ s → r₀ ≡ bank s → f ≡ fresh (pc-of s) (sr-of s)
-    → record { r = r; t = t } ≡ attempt r₀ (seen-by (supervisor (f .sr)) win m) f → n ≡ concluded-clocks s₁ m r t → n ≡ instruction-clocks win s m
+pub instruction-clocks-is : (board : Board) (s s₁ m r₀ r : List ℕ) (f : Flow) (t : Tried) (n : ℕ) → s₁ ≡ s → r₀ ≡ bank s → f ≡ fresh (pc-of s) (sr-of s)
+    → record { r = r; t = t } ≡ attempt r₀ (seen-by (supervisor (f .sr)) board m) f → n ≡ concluded-clocks s₁ m r t → n ≡ instruction-clocks board s m
 unfolding instruction-clocks
-instruction-clocks-is win s s₁ m r₀ r f t n e0 e1 e2 e3 e4 = cc (ap (λ (a : Attempt). a .r) e3, ap (λ (a : Attempt). a .t) e3)
+instruction-clocks-is board s s₁ m r₀ r f t n e0 e1 e2 e3 e4 = cc (ap (λ (a : Attempt). a .r) e3, ap (λ (a : Attempt). a .t) e3)
 
 module _ (event : ℕ) where
   pub interrupt-halts : eqb event 257 ≡ true → 0 ≡ interrupt-clocks event
@@ -82,17 +82,17 @@ module _ (event : ℕ) where
   unfolding interrupt-clocks
   interrupt-counts h = cc
 
-module _ (win : Window) (s m : List ℕ) (level vector n : ℕ) where
+module _ (board : Board) (s m : List ℕ) (level vector n : ℕ) where
   pub clocks-interrupted : (x : ℕ) → (eqb level 7 || ltb (sr-of s / 256 % 8) level) ≡ true → x ≡ interrupt s m level vector .event
-      → n ≡ interrupt-clocks x → n ≡ step-clocks win s m level vector
+      → n ≡ interrupt-clocks x → n ≡ step-clocks board s m level vector
   unfolding step-clocks
   clocks-interrupted x h e d = cc
 
   module _ (h : (eqb level 7 || ltb (sr-of s / 256 % 8) level) ≡ false) where
-    pub clocks-instruction : eqb (mode-of s) 0 ≡ true → n ≡ instruction-clocks win s m → n ≡ step-clocks win s m level vector
+    pub clocks-instruction : eqb (mode-of s) 0 ≡ true → n ≡ instruction-clocks board s m → n ≡ step-clocks board s m level vector
     unfolding step-clocks
     clocks-instruction k e = cc
 
-    pub clocks-stopped : eqb (mode-of s) 0 ≡ false → n ≡ 4 → n ≡ step-clocks win s m level vector
+    pub clocks-stopped : eqb (mode-of s) 0 ≡ false → n ≡ 4 → n ≡ step-clocks board s m level vector
     unfolding step-clocks
     clocks-stopped k e = cc

@@ -19,7 +19,7 @@ use Rattle.codes.specs.Codes.{Ssp, Pc, Sr, Mode, Running, Halted, Mask, TopLeve
 use Rattle.bits.specs.Bits.{pick, plus, minus}
 use Rattle.bits.proofs.BitsLaws.{bit-bound, pick-cases}
 use Rattle.flags.specs.Flags.{sr-bits, with-ccr}
-use Rattle.bus.specs.declared.Window.{Window}
+use Rattle.bus.specs.Bus.{Board}
 use Rattle.bus.specs.Bus.{View}
 use Rattle.record.specs.Limits.{slot-limit, byte-limit, valid-status, valid-value, ValidSlots, ValidBytes}
 use Rattle.record.specs.Change.{diffs}
@@ -225,17 +225,17 @@ module _ (s m : List ℕ) (h : ValidBytes m) where
       (touches-of-carry-out (settle s r p) m h r p (tracing (sr-of s)))
       (touches-most (touches-of-fault s m h (p .flow .bad) (t .op)) (omega arith))
 
-  touches-of-instruction : (win : Window) → Touches 70 m (instruction win s m .m)
+  touches-of-instruction : (board : Board) → Touches 70 m (instruction board s m .m)
   unfolding instruction
-  touches-of-instruction win =
-      let a = attempt (bank s) (sight win s m) (fresh (pc-of s) (sr-of s)) in touches-of-conclude (a .r) (a .t)
+  touches-of-instruction board =
+      let a = attempt (bank s) (sight board s m) (fresh (pc-of s) (sr-of s)) in touches-of-conclude (a .r) (a .t)
 
-  touches-of-one-step : (win : Window) (level vector : ℕ) → Touches 70 m (one-step win s m level vector .m)
+  touches-of-one-step : (board : Board) (level vector : ℕ) → Touches 70 m (one-step board s m level vector .m)
   unfolding one-step interrupt
-  touches-of-one-step win level vector =
+  touches-of-one-step board level vector =
       pick-cases (λ (t : Stepped). Touches 70 m (t .m)) (eqb level TopLevel || ltb (sr-of s / Mask % 8) level)
       (touches-most (touches-of-exception s m h vector (interrupt-sr (sr-of s) level)) (omega arith))
-      (pick-cases (λ (t : Stepped). Touches 70 m (t .m)) (eqb (mode-of s) Running) (touches-of-instruction win) (touches-none 70 m h))
+      (pick-cases (λ (t : Stepped). Touches 70 m (t .m)) (eqb (mode-of s) Running) (touches-of-instruction board) (touches-none 70 m h))
 
 -- ---- the theorem
 -- what a step keeps: lengths, the values of a valid state, bytes; and at most byte-limit bytes differ
@@ -246,11 +246,11 @@ pub record Kept (s m t n : List ℕ) : Type 0 where
   pub bytes : ValidBytes n
   pub few : length (diffs 0 m n) ≤ byte-limit
 
-module _ (win : Window) (s m : List ℕ) (level vector : ℕ) (slots : length s ≡ slot-limit) (values : ValidSlots s) (bytes : ValidBytes m) where
-  reached : Touches 70 m (one-step win s m level vector .m)
-  reached = touches-of-one-step s m bytes win level vector
+module _ (board : Board) (s m : List ℕ) (level vector : ℕ) (slots : length s ≡ slot-limit) (values : ValidSlots s) (bytes : ValidBytes m) where
+  reached : Touches 70 m (one-step board s m level vector .m)
+  reached = touches-of-one-step s m bytes board level vector
 
-  pub one-step-keeps : Kept s m (one-step win s m level vector .s) (one-step win s m level vector .m)
+  pub one-step-keeps : Kept s m (one-step board s m level vector .s) (one-step board s m level vector .m)
   one-step-keeps =
-      let after = kept-by-one-step Sound sound-keeps win s m (record { slots = slots; values = values }) level vector in
+      let after = kept-by-one-step Sound sound-keeps board s m (record { slots = slots; values = values }) level vector in
       record { slots = after .slots ∙ sym slots; memory = reached .same; values = after .values; bytes = reached .bytes; few = reached .few }

@@ -10,7 +10,7 @@ use lib.Dec.{ltb, eqb}
 use Rattle.bits.proofs.BitsLaws.{pick-cases}
 use Rattle.bus.specs.declared.Flow.{Flow}
 use Rattle.bus.specs.Bus.{View, next-word}
-use Rattle.bus.specs.declared.Window.{Window}
+use Rattle.bus.specs.Bus.{Board}
 use Rattle.bank.specs.Bank.{pc-of, sr-of, mode-of, tracing, bank}
 use Rattle.exception.specs.Exceptions.{fresh}
 use Rattle.decode.specs.Rows.{kind-of, privileged}
@@ -59,21 +59,21 @@ ended-bound t trace event mode h =
     pick-cases (λ n. n ≤ 204) (eqb event 0) (omega arith)
     (pick-cases (λ n. n ≤ 204) (eqb (t .p .flow .bad) 0) (omega arith) (pick-cases (λ n. n ≤ 204) (eqb event 257) (omega arith) (omega arith)))
 
-module _ (win : Window) (s m : List ℕ) where
-  instruction-bound : instruction-clocks win s m ≤ 204
+module _ (board : Board) (s m : List ℕ) where
+  instruction-bound : instruction-clocks board s m ≤ 204
   unfolding instruction-clocks concluded-clocks
   instruction-bound =
       let f = fresh (pc-of s) (sr-of s) in
-      let a = attempt (bank s) (sight win s m) f in
+      let a = attempt (bank s) (sight board s m) f in
       let o = conclude s m (a .r) (a .t) in
-      ended-bound (a .t) (tracing (sr-of s)) (o .event) (mode-of (o .s)) (attempt-bound (bank s) (sight win s m) f)
+      ended-bound (a .t) (tracing (sr-of s)) (o .event) (mode-of (o .s)) (attempt-bound (bank s) (sight board s m) f)
 
   interrupt-bound : (event : ℕ) → interrupt-clocks event ≤ 204
   unfolding interrupt-clocks
   interrupt-bound event = pick-cases (λ n. n ≤ 204) (eqb event 257) (omega arith) (omega arith)
 
   -- the largest value of a step  [K2]
-  pub largest-step : (level vector : ℕ) → step-clocks win s m level vector ≤ most-clocks
+  pub largest-step : (level vector : ℕ) → step-clocks board s m level vector ≤ most-clocks
   unfolding step-clocks
   largest-step level vector =
       pick-cases (λ n. n ≤ 204) (eqb level 7 || ltb (sr-of s / 256 % 8) level) (interrupt-bound (interrupt s m level vector .event))

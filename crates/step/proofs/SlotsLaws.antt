@@ -13,7 +13,7 @@ use Rattle.codes.specs.Codes.{Ssp, Pc, Sr, Mode, Running, Halted, Mask, TopLeve
 use Rattle.bits.specs.Bits.{pick, minus}
 use Rattle.bits.proofs.BitsLaws.{pick-cases}
 use Rattle.bus.specs.Bus.{View, fault-vector}
-use Rattle.bus.specs.declared.Window.{Window}
+use Rattle.bus.specs.Bus.{Board}
 use Rattle.record.specs.Limits.{slot-limit}
 use Rattle.plan.specs.declared.Plan.{Plan}
 use Rattle.bank.specs.Bank.{ssp-of, pc-of, sr-of, mode-of, tracing, bank, settle}
@@ -68,20 +68,20 @@ module _ (P : List ℕ → Type 0) (keeps : Keeps P) where
         (kept-by-carry-out (settle s r p) m (keeps .settling s r p h) r p (tracing (sr-of s)))
         (kept-by-fault s m h (p .flow .bad) (t .op))
 
-    kept-by-instruction : (win : Window) → InSlots (instruction win s m)
+    kept-by-instruction : (board : Board) → InSlots (instruction board s m)
     unfolding instruction
-    kept-by-instruction win =
-        let a = attempt (bank s) (sight win s m) (fresh (pc-of s) (sr-of s)) in kept-by-conclude (a .r) (a .t)
+    kept-by-instruction board =
+        let a = attempt (bank s) (sight board s m) (fresh (pc-of s) (sr-of s)) in kept-by-conclude (a .r) (a .t)
 
-    stepped-keeps : (win : Window) (level vector : ℕ) → InSlots (one-step win s m level vector)
+    stepped-keeps : (board : Board) (level vector : ℕ) → InSlots (one-step board s m level vector)
     unfolding one-step interrupt
-    stepped-keeps win level vector =
+    stepped-keeps board level vector =
         pick-cases InSlots (eqb level TopLevel || ltb (sr-of s / Mask % 8) level)
         (kept-by-exception s m h vector (interrupt-sr (sr-of s) level) (λ v. keeps .interrupting s v 6 vector level h))
-        (pick-cases InSlots (eqb (mode-of s) Running) (kept-by-instruction win) h)
+        (pick-cases InSlots (eqb (mode-of s) Running) (kept-by-instruction board) h)
 
-  pub kept-by-one-step : (win : Window) (s m : List ℕ) → P s → (level vector : ℕ) → InSlots (one-step win s m level vector)
-  kept-by-one-step win s m h level vector = stepped-keeps s m h win level vector
+  pub kept-by-one-step : (board : Board) (s m : List ℕ) → P s → (level vector : ℕ) → InSlots (one-step board s m level vector)
+  kept-by-one-step board s m h level vector = stepped-keeps s m h board level vector
 
 -- ---- twenty slots
 abbrev Twenty : List ℕ → Type 0
@@ -111,5 +111,5 @@ twenty-keeps =
       settling = λ s r p h. twenty-of-settle s r p;
     }
 
-pub twenty-of-one-step : (win : Window) (s m : List ℕ) → length s ≡ slot-limit → (level vector : ℕ) → length (one-step win s m level vector .s) ≡ slot-limit
-twenty-of-one-step win s m h level vector = kept-by-one-step Twenty twenty-keeps win s m h level vector
+pub twenty-of-one-step : (board : Board) (s m : List ℕ) → length s ≡ slot-limit → (level vector : ℕ) → length (one-step board s m level vector .s) ≡ slot-limit
+twenty-of-one-step board s m h level vector = kept-by-one-step Twenty twenty-keeps board s m h level vector

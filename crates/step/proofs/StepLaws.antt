@@ -13,7 +13,7 @@ use Rattle.bits.proofs.BitsLaws.{and-left, and-right}
 use Rattle.bus.specs.declared.Flow.{Flow}
 use Rattle.bus.specs.declared.Fetched.{Fetched}
 use Rattle.bus.specs.Bus.{View, view-of, seen-by, next-word, room, put-sized}
-use Rattle.bus.specs.declared.Window.{Window}
+use Rattle.bus.specs.Bus.{Board}
 use Rattle.bus.proofs.BusLaws.{room-keeps}
 use Rattle.plan.specs.declared.Plan.{Plan}
 use Rattle.plan.specs.Plans.{Done}
@@ -65,10 +65,10 @@ module _ (r t : List ℕ) (v : View) (f : Flow) (w : Fetched) (p q : Plan) (e : 
   attempt-is n d c h = cc (ap (λ (o : Done). o .r) d, ap (λ (o : Done). o .p) d)
 
 -- q is what the code lends for the state of f
-pub lent-attempt-is : (win : Window) (m r t : List ℕ) (q : List (List ℕ)) (f : Flow) (b : Bool) (x : Tried) → b ≡ supervisor (f .sr)
-    → view-of q ≡ seen-by b win m → record { r = t; t = x } ≡ attempt r (view-of q) f
-    → record { r = t; t = x } ≡ attempt r (seen-by (supervisor (f .sr)) win m) f
-lent-attempt-is win m r t q f b x e d h = cc
+pub lent-attempt-is : (board : Board) (m r t : List ℕ) (q : List (List ℕ)) (f : Flow) (b : Bool) (x : Tried) → b ≡ supervisor (f .sr)
+    → view-of q ≡ seen-by b board m → record { r = t; t = x } ≡ attempt r (view-of q) f
+    → record { r = t; t = x } ≡ attempt r (seen-by (supervisor (f .sr)) board m) f
+lent-attempt-is board m r t q f b x e d h = cc
 
 module _ (m r o : List ℕ) (p : Plan) where
   pub commit-one : ltb (p .write) 3 ≡ true → o ≡ put-sized m (p .at) (p .write) (p .value) → o ≡ commit m r p
@@ -188,33 +188,33 @@ module _ (s m r : List ℕ) (t : Tried) where
   conclude-faults h = cc
 
 -- s₁ is the second loan of the slots s
-pub instruction-is : (win : Window) (s s₁ m r₀ r : List ℕ) (f : Flow) (t : Tried) → s₁ ≡ s → r₀ ≡ bank s → f ≡ fresh (pc-of s) (sr-of s)
-    → record { r = r; t = t } ≡ attempt r₀ (seen-by (supervisor (f .sr)) win m) f → conclude s₁ m r t ≡ instruction win s m
+pub instruction-is : (board : Board) (s s₁ m r₀ r : List ℕ) (f : Flow) (t : Tried) → s₁ ≡ s → r₀ ≡ bank s → f ≡ fresh (pc-of s) (sr-of s)
+    → record { r = r; t = t } ≡ attempt r₀ (seen-by (supervisor (f .sr)) board m) f → conclude s₁ m r t ≡ instruction board s m
 unfolding instruction
-instruction-is win s s₁ m r₀ r f t e0 e1 e2 e3 = cc (ap (λ (a : Attempt). a .r) e3, ap (λ (a : Attempt). a .t) e3)
+instruction-is board s s₁ m r₀ r f t e0 e1 e2 e3 = cc (ap (λ (a : Attempt). a .r) e3, ap (λ (a : Attempt). a .t) e3)
 
 pub interrupt-is : (s m : List ℕ) (level vector sr : ℕ) → sr ≡ interrupt-sr (sr-of s) level → exception s m vector sr ≡ interrupt s m level vector
 unfolding interrupt
 interrupt-is s m level vector sr e = cc
 
-module _ (win : Window) (s m : List ℕ) (level vector : ℕ) where
-  pub step-interrupted : (eqb level TopLevel || ltb (sr-of s / Mask % 8) level) ≡ true → interrupt s m level vector ≡ one-step win s m level vector
+module _ (board : Board) (s m : List ℕ) (level vector : ℕ) where
+  pub step-interrupted : (eqb level TopLevel || ltb (sr-of s / Mask % 8) level) ≡ true → interrupt s m level vector ≡ one-step board s m level vector
   unfolding one-step
   step-interrupted h = cc
 
   module _ (h : (eqb level TopLevel || ltb (sr-of s / Mask % 8) level) ≡ false) where
-    pub step-instruction : eqb (mode-of s) 0 ≡ true → instruction win s m ≡ one-step win s m level vector
+    pub step-instruction : eqb (mode-of s) 0 ≡ true → instruction board s m ≡ one-step board s m level vector
     unfolding one-step
     step-instruction k = cc
 
-    pub step-stopped-slots : eqb (mode-of s) 0 ≡ false → s ≡ one-step win s m level vector .s
+    pub step-stopped-slots : eqb (mode-of s) 0 ≡ false → s ≡ one-step board s m level vector .s
     unfolding one-step
     step-stopped-slots k = cc
 
-    pub step-stopped-memory : eqb (mode-of s) 0 ≡ false → m ≡ one-step win s m level vector .m
+    pub step-stopped-memory : eqb (mode-of s) 0 ≡ false → m ≡ one-step board s m level vector .m
     unfolding one-step
     step-stopped-memory k = cc
 
-    pub step-stopped-event : eqb (mode-of s) 0 ≡ false → 0 ≡ one-step win s m level vector .event
+    pub step-stopped-event : eqb (mode-of s) 0 ≡ false → 0 ≡ one-step board s m level vector .event
     unfolding one-step
     step-stopped-event k = cc

@@ -1,6 +1,6 @@
--- Steps.antt - one whole step: window, slots and memory before and a request give slots, memory and the event. It follows [01 One step].
+-- Steps.antt - one whole step: board, slots and memory before and a request give slots, memory and the event. It follows [01 One step].
 -- Its clocks stand behind it: `step-clocks`. Not modelled: prefetch, bus cycles, the edge of level 7.
--- Laws: proofs/StepLaws.antt, proofs/ClockLaws.antt, proofs/LargestLaws.antt.  Source: [003 4.1], [003 4.4.2], [003 4.4.8], [003 D], [01 One step], [K2], [K7].
+-- Laws: proofs/StepLaws.antt, proofs/ClockLaws.antt, proofs/LargestLaws.antt.  Source: [003 4.1], [003 4.4.2], [003 4.4.8], [003 D], [01 One step], [K2], [K7], [K10].
 use Prim.Native.Nat.{ℕ, _+_, _*_, _%_, _/_}
 use mathlib.Core.Bool.{Bool, _&&_, _||_, not}
 use mathlib.Core.List.{List}
@@ -9,7 +9,7 @@ use Rattle.codes.specs.Codes.{Running, Halted, Mask, Supervisor, TopLevel, Ille
 use Rattle.codes.specs.Codes.{NoVector, StopCode, NoEvent, HaltEvent, NoWrite}
 use Rattle.bits.specs.Bits.{pick, bit}
 use Rattle.bus.specs.declared.Flow.{Flow}
-use Rattle.bus.specs.declared.Window.{Window}
+use Rattle.bus.specs.Bus.{Board}
 use Rattle.bus.specs.Bus.{View, seen-by, next-word, room, put-sized, fault-vector}
 use Rattle.plan.specs.declared.Plan.{Plan}
 use Rattle.movem.specs.Movem.{block-room, block-put}
@@ -75,13 +75,13 @@ conclude s m r t =
     let p = t .p in
     pick (eqb (p .flow .bad) 0) (carry-out (settle s r p) m r p (tracing (sr-of s))) (fault s m (p .flow .bad) (t .op))
 
--- what an instruction sees of memory, by the S of its start: no instruction that changes S touches memory afterwards  [K7]
-abbrev pub sight : Window → List ℕ → List ℕ → View
-sight win s m = seen-by (supervisor (sr-of s)) win m
+-- what an instruction sees of memory and ROM, by the S of its start: no instruction that changes S touches memory afterwards  [K7] [K10]
+abbrev pub sight : Board → List ℕ → List ℕ → View
+sight board s m = seen-by (supervisor (sr-of s)) board m
 
 -- one instruction  [01 One step] [K7]
-unfoldable pub instruction : Window → List ℕ → List ℕ → Stepped
-instruction win s m = let a = attempt (bank s) (sight win s m) (fresh (pc-of s) (sr-of s)) in conclude s m (a .r) (a .t)
+unfoldable pub instruction : Board → List ℕ → List ℕ → Stepped
+instruction board s m = let a = attempt (bank s) (sight board s m) (fresh (pc-of s) (sr-of s)) in conclude s m (a .r) (a .t)
 
 -- S set, T clear, and the mask is the level, once SR is copied  [003 4.4.2] [01 One step]
 abbrev pub interrupt-sr : ℕ → ℕ → ℕ
@@ -93,10 +93,10 @@ interrupt s m level vector = exception s m vector (interrupt-sr (sr-of s) level)
 
 -- level 7, or above the mask: the interrupt; else a machine that does not run changes nothing; else one instruction
 -- [003 4.4.2] [003 4.1] [01 One step]
-unfoldable pub one-step : Window → List ℕ → List ℕ → ℕ → ℕ → Stepped
-one-step win s m level vector =
+unfoldable pub one-step : Board → List ℕ → List ℕ → ℕ → ℕ → Stepped
+one-step board s m level vector =
     pick (eqb level TopLevel || ltb (sr-of s / Mask % 8) level) (interrupt s m level vector)
-    (pick (eqb (mode-of s) Running) (instruction win s m) (record { s = s; m = m; event = NoEvent }))
+    (pick (eqb (mode-of s) Running) (instruction board s m) (record { s = s; m = m; event = NoEvent }))
 
 -- ---- clocks
 
@@ -121,18 +121,18 @@ unfoldable pub concluded-clocks : List ℕ → List ℕ → List ℕ → Tried �
 concluded-clocks s m r t = let o = conclude s m r t in ended-clocks t (tracing (sr-of s)) (o .event) (mode-of (o .s))
 
 -- of one instruction  [K2]
-unfoldable pub instruction-clocks : Window → List ℕ → List ℕ → ℕ
-instruction-clocks win s m = let a = attempt (bank s) (sight win s m) (fresh (pc-of s) (sr-of s)) in concluded-clocks s m (a .r) (a .t)
+unfoldable pub instruction-clocks : Board → List ℕ → List ℕ → ℕ
+instruction-clocks board s m = let a = attempt (bank s) (sight board s m) (fresh (pc-of s) (sr-of s)) in concluded-clocks s m (a .r) (a .t)
 
 -- of an interrupt, 0 if it halts  [003 D-14] [K2]
 unfoldable pub interrupt-clocks : ℕ → ℕ
 interrupt-clocks event = pick (eqb event HaltEvent) 0 interrupt-line
 
 -- of a whole step: an interrupt that is taken, an instruction, or a machine that does not run  [K2]
-unfoldable pub step-clocks : Window → List ℕ → List ℕ → ℕ → ℕ → ℕ
-step-clocks win s m level vector =
+unfoldable pub step-clocks : Board → List ℕ → List ℕ → ℕ → ℕ → ℕ
+step-clocks board s m level vector =
     pick (eqb level TopLevel || ltb (sr-of s / Mask % 8) level) (interrupt-clocks (interrupt s m level vector .event))
-    (pick (eqb (mode-of s) Running) (instruction-clocks win s m) stopped-clocks)
+    (pick (eqb (mode-of s) Running) (instruction-clocks board s m) stopped-clocks)
 
 -- the largest value of a step: DIVS of a word in memory by an absolute long address, traced  [K2]
 abbrev pub most-clocks : ℕ

@@ -7,7 +7,7 @@ use mathlib.Core.Path.{_≡_, ap, _∙_}
 use mathlib.Core.Bool.{true}
 use mathlib.Core.List.{List}
 use lib.ListN.{length, getD}
-use Rattle.bus.specs.declared.Window.{Window}
+use Rattle.bus.specs.Bus.{Board}
 use Rattle.step.specs.Steps.{one-step, step-clocks}
 use Rattle.numbers.specs.Number.{written}
 use Rattle.numbers.proofs.WrittenLaws.{length-written}
@@ -32,19 +32,19 @@ valid-lent s m size words bytes fits ok =
     }
 
 -- a step that is taken: t, m₁, ev, ck are what it gives, l₁ the log of n entries
-module _ (win : Window) (s m j l : List ℕ) (level vector mark : ℕ) (valid : Valid s m) (room : mark + longest-record ≤ length j) (t m₁ l₁ : List ℕ) (n ev ck : ℕ)
-    (e : (t ≡ one-step win s m level vector .s) × ((m₁ ≡ one-step win s m level vector .m) × ((ev ≡ one-step win s m level vector .event) × (Noted m l 0 byte-limit m₁ l₁ n × (ck ≡ step-clocks win s m level vector))))) where
+module _ (board : Board) (s m j l : List ℕ) (level vector mark : ℕ) (valid : Valid s m) (room : mark + longest-record ≤ length j) (t m₁ l₁ : List ℕ) (n ev ck : ℕ)
+    (e : (t ≡ one-step board s m level vector .s) × ((m₁ ≡ one-step board s m level vector .m) × ((ev ≡ one-step board s m level vector .event) × (Noted m l 0 byte-limit m₁ l₁ n × (ck ≡ step-clocks board s m level vector))))) where
   noted : Noted m l 0 byte-limit m₁ l₁ n
   noted = e .1 .1 .1 .0
 
   abbrev logged : List ℕ
   logged = step-record s t (restore (changes l₁ n) m₁) m₁
 
-  recorded : logged ≡ step-record s (one-step win s m level vector .s) m (one-step win s m level vector .m)
+  recorded : logged ≡ step-record s (one-step board s m level vector .s) m (one-step board s m level vector .m)
   recorded = rw (noted .start, e .0, e .1 .0)
 
   short : length logged ≤ longest-record
-  short = rw recorded (record-room win s m level vector valid)
+  short = rw recorded (record-room board s m level vector valid)
 
   pub record-fits : mark + length logged ≤ length j
   record-fits = let h = short in omega arith
@@ -52,10 +52,10 @@ module _ (win : Window) (s m j l : List ℕ) (level vector mark : ℕ) (valid : 
   module _ (j₁ : List ℕ) (r : ℕ) (q : (r ≡ mark + length logged) × (j₁ ≡ written j mark logged)) where
     goes-on : GoesOn t m m₁ j j₁ l l₁ r
     goes-on =
-        let v = valid-after-step win s m level vector valid in
+        let v = valid-after-step board s m level vector valid in
         let g : length j₁ ≡ length j = ap length (q .1) ∙ length-written j mark logged record-fits in
         record {
-          state = rw (e .0) (state-fits-when (one-step win s m level vector .s) (one-step win s m level vector .m) v);
+          state = rw (e .0) (state-fits-when (one-step board s m level vector .s) (one-step board s m level vector .m) v);
           memory = rw (e .1 .0) (v .fits);
           same-memory = noted .same;
           same-journal = g;
@@ -63,7 +63,7 @@ module _ (win : Window) (s m j l : List ℕ) (level vector mark : ℕ) (valid : 
           inside = omega (arith, record-fits, q .0);
         }
 
-    pub taken : let c = step-taken win s m level vector j mark in
+    pub taken : let c = step-taken board s m level vector j mark in
         (t ≡ c .s) × ((m₁ ≡ c .m) × ((j₁ ≡ c .j) × ((record { number = 0; event = ev; mark = r; clocks = ck; moved = 0; dropped = 0 } ≡ c .a) × GoesOn t m m₁ j j₁ l l₁ r)))
     unfolding step-taken
     taken =

@@ -1,10 +1,11 @@
 // lib.rt - one step and its record at the mark, in a journal that has room for it. Every call that takes a step takes it by this.
 // Means: step-taken of the crate calls.  Laws: proofs/TakenLaws.antt.
-// Uses: bus, record, one_step, calls.  Source: [01 Calls and what they give back], [01 The journal], [K2], [K7].
+// Uses: bus, record, one_step, calls.  Source: [01 Calls and what they give back], [01 The journal], [K2], [K7], [K10].
 ghost use mathlib.Core.Path.{_≡_};
 ghost use mathlib.Core.Bool.{true};
 ghost use Prim.Native.Nat.{ℕ, _+_, _≤_, _<_, _^_};
 ghost use lib.ListN.{length, getD};
+ghost use Rattle.bus.specs.Bus.{board-of};
 ghost use Rattle.record.specs.Limits.{slot-limit, byte-limit, longest-record};
 ghost use Rattle.calls.specs.Calls.{memory-fits, state-fits, step-taken};
 ghost use Rattle.taken.specs.Going.{GoesOn};
@@ -52,6 +53,7 @@ pub fn step_taken(
     slots: &mut [u32; SLOTS],
     win: Window,
     memory: &mut [u8],
+    rom: &[u8],
     level: u32,
     vector: u32,
     journal: &mut [u8],
@@ -59,16 +61,16 @@ pub fn step_taken(
     log: &mut [u64],
 ) -> StepAnswer
     requires { ⌜ (memory-fits (now memory) ≡ true) × (mark + longest-record ≤ length (now journal)) × (byte-limit ≤ length (now log)) × (state-fits (now slots) ≡ true) ⌝ }
-    ensures { λ _. ⌜ now (slots .exit) ≡ step-taken win (now (slots .entry)) (now (memory .entry)) level vector (now (journal .entry)) mark .s ⌝ }
-    ensures { λ _. ⌜ now (memory .exit) ≡ step-taken win (now (slots .entry)) (now (memory .entry)) level vector (now (journal .entry)) mark .m ⌝ }
-    ensures { λ _. ⌜ now (journal .exit) ≡ step-taken win (now (slots .entry)) (now (memory .entry)) level vector (now (journal .entry)) mark .j ⌝ }
-    ensures { λ a. ⌜ a ≡ step-taken win (now (slots .entry)) (now (memory .entry)) level vector (now (journal .entry)) mark .a ⌝ }
+    ensures { λ _. ⌜ now (slots .exit) ≡ step-taken (board-of win (now (rom .entry))) (now (slots .entry)) (now (memory .entry)) level vector (now (journal .entry)) mark .s ⌝ }
+    ensures { λ _. ⌜ now (memory .exit) ≡ step-taken (board-of win (now (rom .entry))) (now (slots .entry)) (now (memory .entry)) level vector (now (journal .entry)) mark .m ⌝ }
+    ensures { λ _. ⌜ now (journal .exit) ≡ step-taken (board-of win (now (rom .entry))) (now (slots .entry)) (now (memory .entry)) level vector (now (journal .entry)) mark .j ⌝ }
+    ensures { λ a. ⌜ a ≡ step-taken (board-of win (now (rom .entry))) (now (slots .entry)) (now (memory .entry)) level vector (now (journal .entry)) mark .a ⌝ }
     ensures { λ a. ⌜ GoesOn (now (slots .exit)) (now (memory .entry)) (now (memory .exit)) (now (journal .entry)) (now (journal .exit)) (now (log .entry)) (now (log .exit)) (a .mark) ⌝ }
 {
     let size = twenty(slots);
     let long = bytes(memory);
     let old = *slots;
-    let e = one_step::one_step(slots, &old, win, memory, log, level, vector);
+    let e = one_step::one_step(slots, &old, win, memory, rom, log, level, vector);
     let next = record::put_record(journal, mark, &old, slots, memory, log, e.n);
     StepAnswer {
         number: 0,

@@ -6,7 +6,7 @@ use native.Mathlib.Omega.{arith}
 use mathlib.Core.Path.{_≡_, refl, sym, ap, _∙_, subst}
 use mathlib.Core.List.{List, [], _∷_, _++_, reverse}
 use lib.ListN.{length}
-use Rattle.bus.specs.declared.Window.{Window}
+use Rattle.bus.specs.Bus.{Board}
 use Rattle.numbers.specs.Number.{back, written}
 use Rattle.numbers.proofs.WrittenLaws.{back-written, length-written}
 use Rattle.undo.proofs.UndoLaws.{back-below}
@@ -60,15 +60,15 @@ row-journal (q ∷ qs) x f h =
     }
 
 -- what is left of taking back, over a journal
-abbrev pub backing-on : Window → ℕ → ℕ → List ℕ → Machine → BackCall
-backing-on old k n j x = backing (x .window) old k n (x .slots) (x .memory) j (x .mark)
+abbrev pub backing-on : Board → ℕ → ℕ → List ℕ → Machine → BackCall
+backing-on old k n j x = backing (x .board) old k n (x .slots) (x .memory) j (x .mark)
 
-module _ (old : Window) where
-  back-turn : (win : Window) (r n : ℕ) (s m j : List ℕ) (mark : ℕ) (t k : List ℕ) (start : ℕ)
-      → undo-call win s m j mark ≡ record { s = t; m = k; a = record { number = 0; mark = start } }
-      → backing win old (suc r) n s m j mark ≡ backing win old r (n + 1) t k j start
+module _ (old : Board) where
+  back-turn : (board : Board) (r n : ℕ) (s m j : List ℕ) (mark : ℕ) (t k : List ℕ) (start : ℕ)
+      → undo-call board s m j mark ≡ record { s = t; m = k; a = record { number = 0; mark = start } }
+      → backing board old (suc r) n s m j mark ≡ backing board old r (n + 1) t k j start
   unfolding backing
-  back-turn win r n s m j mark t k start e = rw e
+  back-turn board r n s m j mark t k start e = rw e
 
   -- one undo, over any journal that has the same below the mark
   back-one : (q : Request) (x : Machine) (f : Fit x) (h : answer-to Keeping q x .number ≡ 0) (z : Machine) → Stays (taken q x f h) z
@@ -84,7 +84,7 @@ module _ (old : Window) where
       s .below (y .mark) (omega arith) ∙ back-written (x .journal) (x .mark) bs room
       ∙ ap (λ (l : List ℕ). reverse bs ++ l)
       (sym (s .below (x .mark) (omega arith) ∙ back-below (x .journal) (x .mark) bs (x .mark) (omega arith) (omega (arith, room)))) in
-      back-turn (x .window) r n (y .slots) (y .memory) j (y .mark) (x .slots) (x .memory) (x .mark)
+      back-turn (x .board) r n (y .slots) (y .memory) j (y .mark) (x .slots) (x .memory) (x .mark)
       (undoing-to q (seen x) (step-valid Keeping (q .level) (q .vector) x f h) (step-window Keeping (q .level) (q .vector) x h) j
       (omega (arith, s .long, long, room)) last)
 

@@ -22,7 +22,7 @@ use Rattle.tried.specs.Tried.{plain, plains, AllAccepted, try-on}
 
 -- what is left of a try of a machine
 abbrev pub trying-on : ℕ → ℕ → Machine → TryCall
-trying-on k n x = trying (x .window) k n (x .slots) (x .memory) (x .journal) (x .mark)
+trying-on k n x = trying (x .board) k n (x .slots) (x .memory) (x .journal) (x .mark)
 
 -- a try that ends here, and one that its last step ends
 abbrev pub ended-at : ℕ → ℕ → ℕ → Machine → TryCall
@@ -112,7 +112,7 @@ course-of (suc k) x = course-turn k x (takes x) (quiet x) refl refl (course-of k
 
 -- ---- a whole try
 abbrev pub first-number : ℕ → Machine → ℕ
-first-number count x = try-number (x .window) (x .slots) (x .memory) count (x .journal) (x .mark)
+first-number count x = try-number (x .board) (x .slots) (x .memory) count (x .journal) (x .mark)
 
 module _ (count : ℕ) (x : Machine) where
   pub goes-refused : eqb (first-number count x) 0 ≡ false → try-on count x ≡ ended-at refused (first-number count x) 0 x
@@ -128,7 +128,7 @@ module _ (count : ℕ) (x : Machine) where
   goes-on h u = cc
 
 -- ---- rows
-pub row-window : (qs : List Request) (x : Machine) → after-row Keeping qs x .window ≡ x .window
+pub row-window : (qs : List Request) (x : Machine) → after-row Keeping qs x .board ≡ x .board
 row-window [] x = refl
 row-window (q ∷ qs) x = row-window qs (next Keeping q x) ∙ window-stays Keeping q x
 
@@ -172,7 +172,7 @@ pub record Went (count : ℕ) (x : Machine) : Type 0 where
 module _ (count : ℕ) (x : Machine) where
   went-nowhere : (end number : ℕ) → (eqb end taken-exception || eqb end halt) ≡ false → try-on count x ≡ ended-at end number 0 x → Went count x
   went-nowhere end number k e =
-      record { calm = 0; accepted = tt; quiet = tt; left = λ f. left-none (x .window) (x .slots) (x .memory); result = at-rest end number k e }
+      record { calm = 0; accepted = tt; quiet = tt; left = λ f. left-none (x .board) (x .slots) (x .memory); result = at-rest end number k e }
 
   -- a try of calm steps and what follows them
   pub passed : (c : Course count x) → trying-on count 0 x ≡ trying-on (c .rest) (c .calm) (after-row Keeping (plains (c .calm)) x)

@@ -18,7 +18,7 @@ use borrow.Author.Tests.{eqb-true, eqb-false}
 use Rattle.codes.specs.Codes.{NoEvent, HaltEvent}
 use Rattle.bits.specs.Bits.{pick}
 use Rattle.bits.proofs.BitsLaws.{pick-cases}
-use Rattle.bus.specs.declared.Window.{Window}
+use Rattle.bus.specs.Bus.{Board}
 use Rattle.calls.specs.declared.Manner.the-variants.{Keeping}
 use Rattle.calls.specs.declared.StepAnswer.{StepAnswer}
 use Rattle.calls.specs.Calls.{first-tests}
@@ -40,7 +40,7 @@ use Rattle.tried.proofs.BackLaws.{backing-on, back-row}
 -- ---- a try is its steps
 -- the machine that a try leaves, from its call
 abbrev left-by : Machine → TryCall → Machine
-left-by x t = record { window = x .window; slots = t .s; memory = t .m; journal = t .j; mark = t .a .mark }
+left-by x t = record { board = x .board; slots = t .s; memory = t .m; journal = t .j; mark = t .a .mark }
 
 -- what the ends of a try tell
 module _ (event n : ℕ) (z : Machine) where
@@ -53,9 +53,9 @@ module _ (event n : ℕ) (z : Machine) where
   after-calm : calm-steps (ended-after event n z .a) ≡ n - 1
   after-calm = pick-cases (λ (t : TryCall). calm-steps (t .a) ≡ n - 1) (eqb event HaltEvent) refl refl
 
-  after-left : (x : Machine) → z .window ≡ x .window → left-by x (ended-after event n z) ≡ z
+  after-left : (x : Machine) → z .board ≡ x .board → left-by x (ended-after event n z) ≡ z
   after-left x e =
-      let g = ap (λ (win : Window). in-window win z) (sym e) in pick-cases (λ (t : TryCall). left-by x t ≡ z) (eqb event HaltEvent) g g
+      let g = ap (λ (board : Board). in-window board z) (sym e) in pick-cases (λ (t : TryCall). left-by x t ≡ z) (eqb event HaltEvent) g g
 
 module _ (x : Machine) (c : ℕ) (t : TryCall) where
   abbrev z : Machine
@@ -80,7 +80,7 @@ module _ (x : Machine) (c : ℕ) (t : TryCall) where
       }
     where
       back : left-by x (ended-at end number c z) ≡ z
-      back = ap (λ (win : Window). in-window win z) (sym (row-window (plains c) x))
+      back = ap (λ (board : Board). in-window board z) (sym (row-window (plains c) x))
   steps-of a (by-event h l e) =
       let event = answer-to Keeping plain z .event in
       let y = next Keeping plain z in
@@ -145,9 +145,9 @@ module _ (x y : Machine) (h : AlikeMachines x y) where
   same-first : (count : ℕ) → first-number count x ≡ first-number count y
   unfolding try-number first-tests
   same-first count =
-      let sr = same-sr (x .window) (x .slots) (y .slots) (x .memory) (y .memory) (h .states) in
-      let mode = same-mode (x .window) (x .slots) (y .slots) (x .memory) (y .memory) (h .states) in
-      cc (sr, mode, h .states .memory .long, h .window, h .journal, h .mark)
+      let sr = same-sr (x .board) (x .slots) (y .slots) (x .memory) (y .memory) (h .states) in
+      let mode = same-mode (x .board) (x .slots) (y .slots) (x .memory) (y .memory) (h .states) in
+      cc (sr, mode, h .states .memory .long, h .board, h .journal, h .mark)
 
 loud-too : (x y : Machine) → AlikeMachines x y → Fit x → Fit y → quiet x ≡ false → quiet y ≡ false
 loud-too x y h fx fy e = go (quiet y) refl
@@ -289,7 +289,7 @@ module _ (count : ℕ) (x y : Machine) (s : SameTry count x y) where
       (ap (λ (n : ℕ). after-row Keeping (plains n) y) same-calm ∙ sym (once-calm-is count y k)) (s .calm .alike)
 
 -- ---- theorem 3
-pub take-back : (old : Window) (count : ℕ) (x : Machine) → Fit x
+pub take-back : (old : Board) (count : ℕ) (x : Machine) → Fit x
     → back-on old (try-on count x .a .steps) (after-try count x)
     ≡ taken-back old count x
 unfolding backing

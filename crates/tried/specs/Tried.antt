@@ -30,16 +30,16 @@ AllAccepted (q ∷ qs) x = (answer-to Keeping q x .number ≡ 0) × AllAccepted 
 
 -- a try of a machine whose window is set, of so many steps at most  [K7]
 abbrev pub try-on : ℕ → Machine → TryCall
-try-on count x = try-call (x .window) (x .slots) (x .memory) count (x .journal) (x .mark)
+try-on count x = try-call (x .board) (x .slots) (x .memory) count (x .journal) (x .mark)
 
 -- the machine after it  [K7]
 abbrev pub after-try : ℕ → Machine → Machine
 after-try count x =
-    let t = try-on count x in record { window = x .window; slots = t .s; memory = t .m; journal = t .j; mark = t .a .mark }
+    let t = try-on count x in record { board = x .board; slots = t .s; memory = t .m; journal = t .j; mark = t .a .mark }
 
 -- so many steps taken back from a machine, whose window becomes the old one  [K7]
 abbrev pub back-on : Window → ℕ → Machine → BackCall
-back-on old steps x = back-call (x .window) old (x .slots) (x .memory) (x .journal) (x .mark) steps
+back-on old steps x = back-call (x .board) old (x .slots) (x .memory) (x .journal) (x .mark) steps
 
 -- whether the last step of a try took an exception or halted  [K7]
 abbrev pub exceptional : TryAnswer → Bool

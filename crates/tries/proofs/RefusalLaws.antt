@@ -8,7 +8,7 @@ use mathlib.Core.Path.{_≡_}
 use mathlib.Core.List.{List}
 use lib.ListN.{length}
 use borrow.Author.Tests.{ne-eqb}
-use Rattle.bus.specs.declared.Window.{Window}
+use Rattle.bus.specs.Bus.{Board}
 use Rattle.bank.specs.Bank.{mode-of}
 use Rattle.calls.specs.declared.Manner.the-variants.{Keeping}
 use Rattle.calls.specs.Refusals.{zero-at-end}
@@ -16,14 +16,14 @@ use Rattle.calls.proofs.RefusalLaws.{Verdict, verdict, first-given, below-given
 use Rattle.tries.specs.Tries.{ended, try-number, try-call}
 use Rattle.tries.specs.Refusals.{try-table}
 
-module _ (win : Window) (s m : List ℕ) (count : ℕ) (j : List ℕ) (mark : ℕ) where
-  pub try-verdict : Verdict (try-table win s m count j mark) (try-number win s m count j mark)
+module _ (board : Board) (s m : List ℕ) (count : ℕ) (j : List ℕ) (mark : ℕ) where
+  pub try-verdict : Verdict (try-table board s m count j mark) (try-number board s m count j mark)
   unfolding try-number
   try-verdict =
       let last = room-given (equal-given zero-at-end 6 (mode-of s) 2) 5 Keeping j mark in
-      verdict (try-table win s m count j mark) (try-number win s m count j mark) (omega arith)
-      (first-given win s m (below-given (below-given last 4 (length j) mark) 3 1000000 count))
+      verdict (try-table board s m count j mark) (try-number board s m count j mark) (omega arith)
+      (first-given board s m (below-given (below-given last 4 (length j) mark) 3 1000000 count))
 
-  pub try-refused : (try-number win s m count j mark ≡ 0 → ⊥) → try-call win s m count j mark ≡ ended 5 (try-number win s m count j mark) 0 0 s m j mark
+  pub try-refused : (try-number board s m count j mark ≡ 0 → ⊥) → try-call board s m count j mark ≡ ended 5 (try-number board s m count j mark) 0 0 s m j mark
   unfolding try-call
-  try-refused h = rw (ne-eqb (try-number win s m count j mark) 0 h)
+  try-refused h = rw (ne-eqb (try-number board s m count j mark) 0 h)

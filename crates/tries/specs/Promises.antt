@@ -5,19 +5,20 @@ use Prim.Native.Nat.{ℕ}
 use mathlib.Core.Path.{_≡_}
 use mathlib.Core.List.{List}
 use Rattle.bus.specs.declared.Window.{Window}
+use Rattle.bus.specs.Bus.{Board}
 use Rattle.tries.specs.declared.TryAnswer.{TryAnswer}
 use Rattle.tries.specs.declared.BackAnswer.{BackAnswer}
 use Rattle.tries.specs.Tries.{try-call, back-call}
 
 -- a try  [K7]
-pub record TryPromise (win : Window) (s m : List ℕ) (count : ℕ) (j : List ℕ) (mark : ℕ) (s′ m′ j′ : List ℕ) (a : TryAnswer) : Type 0 where
-  pub slots : s′ ≡ try-call win s m count j mark .s
-  pub memory : m′ ≡ try-call win s m count j mark .m
-  pub journal : j′ ≡ try-call win s m count j mark .j
-  pub answer : a ≡ try-call win s m count j mark .a
+pub record TryPromise (board : Board) (s m : List ℕ) (count : ℕ) (j : List ℕ) (mark : ℕ) (s′ m′ j′ : List ℕ) (a : TryAnswer) : Type 0 where
+  pub slots : s′ ≡ try-call board s m count j mark .s
+  pub memory : m′ ≡ try-call board s m count j mark .m
+  pub journal : j′ ≡ try-call board s m count j mark .j
+  pub answer : a ≡ try-call board s m count j mark .a
 
 -- taking back: the journal is lent to be read only  [K7]
-pub record BackPromise (win old : Window) (s m j : List ℕ) (mark steps : ℕ) (s′ m′ : List ℕ) (a : BackAnswer) : Type 0 where
-  pub slots : s′ ≡ back-call win old s m j mark steps .s
-  pub memory : m′ ≡ back-call win old s m j mark steps .m
-  pub answer : a ≡ back-call win old s m j mark steps .a
+pub record BackPromise (board : Board) (old : Window) (s m j : List ℕ) (mark steps : ℕ) (s′ m′ : List ℕ) (a : BackAnswer) : Type 0 where
+  pub slots : s′ ≡ back-call board old s m j mark steps .s
+  pub memory : m′ ≡ back-call board old s m j mark steps .m
+  pub answer : a ≡ back-call board old s m j mark steps .a

@@ -1,6 +1,6 @@
 -- Tries.antt - the pattern tryer: a window is set, and steps with level 0 are taken up to a number of steps, the first exception or a refusal;
 -- and all of it taken back, the old window too. It keeps all records.
--- Not here: what a step or an undo is (Calls.antt of the crate calls). Laws: proofs/.  Source: [K7].
+-- Not here: what a step or an undo is (Calls.antt of the crate calls). Laws: proofs/.  Source: [K7], [K10].
 use Prim.Native.Nat.{ℕ, zero, suc, _+_, _-_}
 use mathlib.Core.List.{List}
 use lib.ListN.{length}
@@ -8,6 +8,7 @@ use lib.Dec.{ltb, eqb}
 use Rattle.codes.specs.Codes.{Halted, MostSteps, NoEvent, HaltEvent}
 use Rattle.bits.specs.Bits.{pick}
 use Rattle.bus.specs.declared.Window.{Window}
+use Rattle.bus.specs.Bus.{Board}
 use Rattle.bank.specs.Bank.{sr-of, mode-of, supervisor}
 use Rattle.calls.specs.declared.Manner.the-variants.{Keeping}
 use Rattle.calls.specs.Calls.{no-room, first-tests, step-call, undo-call}
@@ -56,31 +57,31 @@ ended-by event n s m j mark =
     pick (eqb event HaltEvent) (ended halt 0 0 n s m j mark) (ended taken-exception 0 (event - 1) n s m j mark)
 
 -- what is left of a try, k steps of it, with n done: a step with level 0 that takes no exception is followed by the next  [K7]
-unfoldable pub trying : Window → ℕ → ℕ → List ℕ → List ℕ → List ℕ → ℕ → TryCall
-trying win zero n s m j mark = ended spent 0 0 n s m j mark
-trying win (suc k) n s m j mark =
-    let t = step-call Keeping win s m 0 0 j mark in
+unfoldable pub trying : Board → ℕ → ℕ → List ℕ → List ℕ → List ℕ → ℕ → TryCall
+trying board zero n s m j mark = ended spent 0 0 n s m j mark
+trying board (suc k) n s m j mark =
+    let t = step-call Keeping board s m 0 0 j mark in
     pick (eqb (t .a .number) 0)
     (pick (eqb (t .a .event) NoEvent)
-    (trying win k (n + 1) (t .s) (t .m) (t .j) (t .a .mark))
+    (trying board k (n + 1) (t .s) (t .m) (t .j) (t .a .mark))
     (ended-by (t .a .event) (n + 1) (t .s) (t .m) (t .j) (t .a .mark)))
     (ended refused (t .a .number) 0 n s m j mark)
 
--- the refusals of its first step, with 3 for a count above a run's: 1, 2, 10 and 3 to 6, or 0  [K7] [01 Calls, table]
-unfoldable pub try-number : Window → List ℕ → List ℕ → ℕ → List ℕ → ℕ → ℕ
-try-number win s m count j mark =
-    first-tests win s m
+-- the refusals of its first step, with 3 for a count above a run's: 1, 12, 2, 10 and 3 to 6, or 0  [K7] [K10] [01 Calls, table]
+unfoldable pub try-number : Board → List ℕ → List ℕ → ℕ → List ℕ → ℕ → ℕ
+try-number board s m count j mark =
+    first-tests board s m
     (pick (ltb MostSteps count) 3
     (pick (ltb (length j) mark) 4
     (pick (no-room Keeping j mark) 5
     (pick (eqb (mode-of s) Halted) 6 0))))
 
 -- a whole try: the refusals of its first step come first, then a start in supervisor state, then the steps  [K7]
-unfoldable pub try-call : Window → List ℕ → List ℕ → ℕ → List ℕ → ℕ → TryCall
-try-call win s m count j mark =
-    let n = try-number win s m count j mark in
+unfoldable pub try-call : Board → List ℕ → List ℕ → ℕ → List ℕ → ℕ → TryCall
+try-call board s m count j mark =
+    let n = try-number board s m count j mark in
     pick (eqb n 0)
-    (pick (supervisor (sr-of s)) (ended supervised 0 0 0 s m j mark) (trying win count 0 s m j mark))
+    (pick (supervisor (sr-of s)) (ended supervised 0 0 0 s m j mark) (trying board count 0 s m j mark))
     (ended refused n 0 0 s m j mark)
 
 -- ---- taking back
@@ -93,14 +94,14 @@ pub record BackCall : Type 0 where
 
 -- what is left of taking back, k undos of it, with n done: all of them, and the old window; or up to the first that is refused, and the
 -- window stays  [K7]
-unfoldable pub backing : Window → Window → ℕ → ℕ → List ℕ → List ℕ → List ℕ → ℕ → BackCall
-backing win old zero n s m j mark = record { s = s; m = m; a = record { number = 0; undone = n; mark = mark; lo = old .lo; hi = old .hi } }
-backing win old (suc k) n s m j mark =
-    let u = undo-call win s m j mark in
+unfoldable pub backing : Board → Window → ℕ → ℕ → List ℕ → List ℕ → List ℕ → ℕ → BackCall
+backing board old zero n s m j mark = record { s = s; m = m; a = record { number = 0; undone = n; mark = mark; lo = old .lo; hi = old .hi } }
+backing board old (suc k) n s m j mark =
+    let u = undo-call board s m j mark in
     pick (eqb (u .a .number) 0)
-    (backing win old k (n + 1) (u .s) (u .m) j (u .a .mark))
-    (record { s = s; m = m; a = record { number = u .a .number; undone = n; mark = mark; lo = win .lo; hi = win .hi } })
+    (backing board old k (n + 1) (u .s) (u .m) j (u .a .mark))
+    (record { s = s; m = m; a = record { number = u .a .number; undone = n; mark = mark; lo = board .window .lo; hi = board .window .hi } })
 
 -- so many steps taken back  [K7]
-abbrev pub back-call : Window → Window → List ℕ → List ℕ → List ℕ → ℕ → ℕ → BackCall
-back-call win old s m j mark steps = backing win old steps 0 s m j mark
+abbrev pub back-call : Board → Window → List ℕ → List ℕ → List ℕ → ℕ → ℕ → BackCall
+back-call board old s m j mark steps = backing board old steps 0 s m j mark

@@ -1,7 +1,8 @@
 // lib.rt - the pattern tryer: it tries a stranger's program in a window, says how that ended, and takes all back. No call has a `requires`.
 // Means: specs/Tries.antt, specs/Promises.antt.  Laws: proofs/TryLaws.antt, proofs/PromiseLaws.antt; the theorems stand in the crate tried.
-// Uses: codes, bus, bank, record, calls, answers, keeping, machine.  Source: [K7].
+// Uses: codes, bus, bank, record, calls, answers, keeping, machine.  Source: [K7], [K10].
 ghost use mathlib.Core.Path.{_≡_};
+ghost use Rattle.bus.specs.Bus.{board-of};
 ghost use Rattle.tries.specs.Tries.{trying, try-number};
 ghost use Rattle.tries.specs.Promises.{TryPromise, BackPromise};
 use bus::Window;
@@ -45,13 +46,14 @@ fn try_number(
     slots: &[u32; SLOTS],
     win: Window,
     memory: &[u8],
+    rom: &[u8],
     count: u32,
     journal: &[u8],
     mark: usize,
 ) -> u32
-    ensures { λ r. ⌜ r ≡ try-number win (now (slots .entry)) (now (memory .entry)) count (now (journal .entry)) mark ⌝ }
+    ensures { λ r. ⌜ r ≡ try-number (board-of win (now (rom .entry))) (now (slots .entry)) (now (memory .entry)) count (now (journal .entry)) mark ⌝ }
 {
-    let first = answers::first_number(slots, win, memory);
+    let first = answers::first_number(slots, win, memory, rom);
     if first != 0 {
         return first;
     }
@@ -79,16 +81,17 @@ fn trying(
     slots: &mut [u32; SLOTS],
     win: Window,
     memory: &mut [u8],
+    rom: &[u8],
     count: u32,
     journal: &mut [u8],
     mark: usize,
 ) -> TryAnswer
-    ensures { λ a. ⌜ record { s = now (slots .exit); m = now (memory .exit); j = now (journal .exit); a = a } ≡ trying win count 0 (now (slots .entry)) (now (memory .entry)) (now (journal .entry)) mark ⌝ }
+    ensures { λ a. ⌜ record { s = now (slots .exit); m = now (memory .exit); j = now (journal .exit); a = a } ≡ trying (board-of win (now (rom .entry))) count 0 (now (slots .entry)) (now (memory .entry)) (now (journal .entry)) mark ⌝ }
 {
     let mut n: u32 = 0;
     let mut at = mark;
     while n < count {
-        let a = keeping::step_keeping(slots, win, memory, 0, 0, journal, at);
+        let a = keeping::step_keeping(slots, win, memory, rom, 0, 0, journal, at);
         let refused = a.number != 0;
         if refused {
             return TryAnswer {
@@ -136,13 +139,14 @@ pub fn try_pattern(
     slots: &mut [u32; SLOTS],
     win: Window,
     memory: &mut [u8],
+    rom: &[u8],
     count: u32,
     journal: &mut [u8],
     mark: usize,
 ) -> TryAnswer
-    ensures { λ a. ⌜ TryPromise win (now (slots .entry)) (now (memory .entry)) count (now (journal .entry)) mark (now (slots .exit)) (now (memory .exit)) (now (journal .exit)) a ⌝ }
+    ensures { λ a. ⌜ TryPromise (board-of win (now (rom .entry))) (now (slots .entry)) (now (memory .entry)) count (now (journal .entry)) mark (now (slots .exit)) (now (memory .exit)) (now (journal .exit)) a ⌝ }
 {
-    let number = try_number(slots, win, memory, count, journal, mark);
+    let number = try_number(slots, win, memory, rom, count, journal, mark);
     let refused = number != 0;
     if refused {
         return TryAnswer {
@@ -163,7 +167,7 @@ pub fn try_pattern(
             mark,
         };
     }
-    trying(slots, win, memory, count, journal, mark)
+    trying(slots, win, memory, rom, count, journal, mark)
 }
 
 // Takes so many steps back, and gives the old window again; where an undo is refused it ends there, and the window stays.
@@ -171,17 +175,18 @@ pub fn take_back(
     slots: &mut [u32; SLOTS],
     win: Window,
     memory: &mut [u8],
+    rom: &[u8],
     journal: &[u8],
     mark: usize,
     steps: u32,
     old: Window,
 ) -> BackAnswer
-    ensures { λ a. ⌜ BackPromise win old (now (slots .entry)) (now (memory .entry)) (now (journal .entry)) mark steps (now (slots .exit)) (now (memory .exit)) a ⌝ }
+    ensures { λ a. ⌜ BackPromise (board-of win (now (rom .entry))) old (now (slots .entry)) (now (memory .entry)) (now (journal .entry)) mark steps (now (slots .exit)) (now (memory .exit)) a ⌝ }
 {
     let mut n: u32 = 0;
     let mut at = mark;
     while n < steps {
-        let a = machine::undo(slots, win, memory, journal, at);
+        let a = machine::undo(slots, win, memory, rom, journal, at);
         let refused = a.number != 0;
         if refused {
             return BackAnswer {

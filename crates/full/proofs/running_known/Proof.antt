@@ -11,12 +11,12 @@ use Rattle.calls.specs.declared.Manner.the-variants.{Dropping}
 use Rattle.calls.specs.Calls.{running}
 
 abbrev Inv-loop : tie.InvT-loop
-Inv-loop slots₀ win memory₀ budget stop journal₀ mark done clocks log₀ h spread posts₀ near₀ size long len n₀ c₀ m₀ b₀ i₀ base₀ moved₀ dropped₀ slots memory journal log posts near n c m b i base moved dropped =
-    Going win budget stop (running Dropping win (budget - done) done clocks 0 0 stop slots₀ memory₀ journal₀ mark) h mark
+Inv-loop slots₀ board memory₀ budget stop journal₀ mark done clocks log₀ h spread posts₀ near₀ size long len n₀ c₀ m₀ b₀ i₀ base₀ moved₀ dropped₀ slots memory journal log posts near n c m b i base moved dropped =
+    Going board budget stop (running Dropping board (budget - done) done clocks 0 0 stop slots₀ memory₀ journal₀ mark) h mark
     memory₀ journal₀ log₀ posts₀ near₀ slots memory journal log posts near n c m b i base moved dropped
 
 abbrev μ-loop : tie.MeasureT-loop
-μ-loop slots₀ win memory₀ budget stop journal₀ mark done clocks log₀ h spread posts₀ near₀ size long len n₀ c₀ m₀ b₀ i₀ base₀ moved₀ dropped₀ slots memory journal log posts near n c m b i base moved dropped = budget - n
+μ-loop slots₀ board memory₀ budget stop journal₀ mark done clocks log₀ h spread posts₀ near₀ size long len n₀ c₀ m₀ b₀ i₀ base₀ moved₀ dropped₀ slots memory journal log posts near n c m b i base moved dropped = budget - n
 
 loop-holds : tie.Need-loop-holds Inv-loop μ-loop
 loop-holds c =

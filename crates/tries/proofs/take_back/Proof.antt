@@ -8,11 +8,11 @@ use Rattle.tries.proofs.take_back.Statement.{statement}
 use Rattle.tries.proofs.take_back.Tie as tie
 
 abbrev Inv-loop : tie.InvT-loop
-Inv-loop slots₀ win memory₀ journal mark steps old n₀ at₀ slots memory n at =
-    Backing win old steps slots₀ memory₀ journal mark slots memory at n × (length memory ≡ length memory₀)
+Inv-loop slots₀ board memory₀ journal mark steps old n₀ at₀ slots memory n at =
+    Backing board old steps slots₀ memory₀ journal mark slots memory at n × (length memory ≡ length memory₀)
 
 abbrev μ-loop : tie.MeasureT-loop
-μ-loop slots₀ win memory₀ journal mark steps old n₀ at₀ slots memory n at = steps - n
+μ-loop slots₀ board memory₀ journal mark steps old n₀ at₀ slots memory n at = steps - n
 
 -- k: after the undo; l: the head of the loop
 returns : tie.Need-returns Inv-loop μ-loop
