@@ -13,7 +13,7 @@ use Rattle.undo.proofs.UndoLaws.{back-below}
 use Rattle.calls.specs.declared.Manner.the-variants.{Keeping}
 use Rattle.calls.specs.Calls.{undo-call}
 use Rattle.calls.specs.History.{Machine, Request, seen, record-after, one-more}
-use Rattle.calls.proofs.ActLaws.{machine-at, act-step, step-valid, step-window, step-room}
+use Rattle.calls.proofs.ActLaws.{machine-at, act-step, step-valid, step-board, step-room}
 use Rattle.calls.proofs.BackLaws.{mark-after, undoing-to}
 use Rattle.tries.specs.Tries.{BackCall, backing}
 use Rattle.fence.specs.Rows.{Fit, answer-to, next, after-row}
@@ -85,7 +85,7 @@ module _ (old : Board) where
       ∙ ap (λ (l : List ℕ). reverse bs ++ l)
       (sym (s .below (x .mark) (omega arith) ∙ back-below (x .journal) (x .mark) bs (x .mark) (omega arith) (omega (arith, room)))) in
       back-turn (x .board) r n (y .slots) (y .memory) j (y .mark) (x .slots) (x .memory) (x .mark)
-      (undoing-to q (seen x) (step-valid Keeping (q .level) (q .vector) x f h) (step-window Keeping (q .level) (q .vector) x h) j
+      (undoing-to q (seen x) (step-valid Keeping (q .level) (q .vector) x f h) (step-board Keeping (q .level) (q .vector) x h) j
       (omega (arith, s .long, long, room)) last)
 
   pub back-row : (qs : List Request) (x : Machine) → Fit x → AllAccepted qs x → (r n : ℕ)
