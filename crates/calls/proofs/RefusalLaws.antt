@@ -81,7 +81,7 @@ verdict t c r g =
     }
 
 -- ---- a choice by a test is a line of a table
-given-pick : {k : ℕ} {ls : List Line} (b : Bool) (n : ℕ) (A : Type 0) → (b ≡ true → A) → (b ≡ false → A → ⊥) → Given ls k → Given (record { number = n; applies = A } ∷ ls) (pick b n k)
+pub given-pick : {k : ℕ} {ls : List Line} (b : Bool) (n : ℕ) (A : Type 0) → (b ≡ true → A) → (b ≡ false → A → ⊥) → Given ls k → Given (record { number = n; applies = A } ∷ ls) (pick b n k)
 given-pick true n A f g rest = this (f refl) refl
 given-pick false n A f g rest = later (g refl) rest
 

@@ -3,16 +3,17 @@ use Prim.Native.Nat.{_-_}
 use mathlib.Core.Path.{_≡_}
 use lib.ListN.{length}
 use borrow.Author.Needs.{needs}
+use Rattle.bus.specs.Bus.{board-of}
 use Rattle.tries.proofs.TryLaws.{Trying, trying-start, trying-again, tries-spent, tries-refused, tries-halts, tries-excepts, loud-event}
 use Rattle.tries.proofs.trying.Statement.{statement}
 use Rattle.tries.proofs.trying.Tie as tie
 
 abbrev Inv-loop : tie.InvT-loop
-Inv-loop slots₀ board memory₀ count journal₀ mark n₀ at₀ slots memory journal n at =
-    Trying board count slots₀ memory₀ journal₀ mark slots memory journal at n × ((length memory ≡ length memory₀) × (length journal ≡ length journal₀))
+Inv-loop slots₀ win memory₀ rom count journal₀ mark n₀ at₀ slots memory journal n at =
+    Trying (board-of win rom) count slots₀ memory₀ journal₀ mark slots memory journal at n × ((length memory ≡ length memory₀) × (length journal ≡ length journal₀))
 
 abbrev μ-loop : tie.MeasureT-loop
-μ-loop slots₀ board memory₀ count journal₀ mark n₀ at₀ slots memory journal n at = count - n
+μ-loop slots₀ win memory₀ rom count journal₀ mark n₀ at₀ slots memory journal n at = count - n
 
 loop-holds : tie.Need-loop-holds Inv-loop μ-loop
 loop-holds c = (trying-start _ _ _ _ _ _, (search needs, search needs))
