@@ -6,6 +6,7 @@ use native.Mathlib.Omega.{arith}
 use mathlib.Core.Path.{_≡_, refl, sym, ap, _∙_, subst}
 use mathlib.Core.List.{List, [], _∷_, _++_, reverse}
 use lib.ListN.{length}
+use Rattle.bus.specs.declared.Window.{Window}
 use Rattle.bus.specs.Bus.{Board}
 use Rattle.numbers.specs.Number.{back, written}
 use Rattle.numbers.proofs.WrittenLaws.{back-written, length-written}
@@ -60,10 +61,10 @@ row-journal (q ∷ qs) x f h =
     }
 
 -- what is left of taking back, over a journal
-abbrev pub backing-on : Board → ℕ → ℕ → List ℕ → Machine → BackCall
+abbrev pub backing-on : Window → ℕ → ℕ → List ℕ → Machine → BackCall
 backing-on old k n j x = backing (x .board) old k n (x .slots) (x .memory) j (x .mark)
 
-module _ (old : Board) where
+module _ (old : Window) where
   back-turn : (board : Board) (r n : ℕ) (s m j : List ℕ) (mark : ℕ) (t k : List ℕ) (start : ℕ)
       → undo-call board s m j mark ≡ record { s = t; m = k; a = record { number = 0; mark = start } }
       → backing board old (suc r) n s m j mark ≡ backing board old r (n + 1) t k j start

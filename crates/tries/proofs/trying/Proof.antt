@@ -33,8 +33,8 @@ returns-2 c =
     tries-halts (l .before .loop .inv .0) (l .loop-test .taken) (k .step-keeping .ensures) (d .if1 .left) (c .if2 .taken)
 
 -- d₂, d₁: after the second and the first test, which did not end the try
-sub-t19 : tie.Need-sub-t19 Inv-loop μ-loop
-sub-t19 c = loud-event _ (c .before .if3 .taken)
+sub-vector : tie.Need-sub-vector Inv-loop μ-loop
+sub-vector c = loud-event _ (c .before .if3 .taken)
 
 returns-3 : tie.Need-returns-3 Inv-loop μ-loop
 returns-3 c =
@@ -67,7 +67,7 @@ trying-spec =
     (λ c. search needs)
     (λ c. search needs)
     returns-2
-    sub-t19
+    sub-vector
     (λ c. search needs)
     (λ c. search needs)
     returns-3
