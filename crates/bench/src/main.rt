@@ -89,7 +89,7 @@ fn write_dropped(p: Progress, memory: &[u8], journal: &[u8]) {
 // Runs what is asked, on the memory and the journal that are lent.
 fn run_asked(a: Asked, memory: &mut [u8], journal: &mut [u8]) {
     let mut slots = [0u32; SLOTS];
-    let r = machine::reset(&mut slots, memory);
+    let r = machine::reset(&mut slots, memory, &[]);
     let win = Window { lo: r.lo, hi: r.hi };
     let p = running::start(a.count);
     let q = running::run_all(p, &mut slots, win, memory, journal, a.way);

@@ -120,7 +120,7 @@ fn run_part(
     memory: &mut [u8],
     journal: &mut [u8],
 ) -> Part {
-    let answer = keeping::run_keeping(slots, win, memory, budget(left), STOP, journal, 0);
+    let answer = keeping::run_keeping(slots, win, memory, &[], budget(left), STOP, journal, 0);
     Part {
         steps: answer.steps as u64,
         mark: answer.mark,
@@ -152,7 +152,7 @@ fn undo_once(
     journal: &[u8],
     mark: usize,
 ) -> usize {
-    let answer = machine::undo(slots, win, memory, journal, mark);
+    let answer = machine::undo(slots, win, memory, &[], journal, mark);
     if answer.number != 0 {
         return 0;
     }
@@ -223,7 +223,16 @@ fn run_dropping(
     memory: &mut [u8],
     journal: &mut [u8],
 ) -> Progress {
-    let answer = machine::run(slots, win, memory, budget(p.left), STOP, journal, p.mark);
+    let answer = machine::run(
+        slots,
+        win,
+        memory,
+        &[],
+        budget(p.left),
+        STOP,
+        journal,
+        p.mark,
+    );
     let part = Part {
         steps: answer.steps as u64,
         mark: answer.mark,
@@ -247,7 +256,7 @@ fn step_dropping(
     memory: &mut [u8],
     journal: &mut [u8],
 ) -> Progress {
-    let answer = machine::step(slots, win, memory, 0, 0, journal, p.mark);
+    let answer = machine::step(slots, win, memory, &[], 0, 0, journal, p.mark);
     let part = Part {
         steps: accepted(answer.number),
         mark: answer.mark,

@@ -283,10 +283,5 @@ pub fn try_case(text: &[u8], memory: &mut [u8], wanted: &mut [u8], rom: &mut [u8
     if rom.len() < r {
         return SKIPPED;
     }
-    on_zeros(
-        text,
-        &mut memory[0..n],
-        &mut wanted[0..n],
-        &mut rom[0..r],
-    )
+    on_zeros(text, &mut memory[0..n], &mut wanted[0..n], &mut rom[0..r])
 }

@@ -106,11 +106,7 @@ fn try_small(
     wanted: &mut [u8; 65536],
     rom: &mut [u8; 65536],
 ) -> Progress {
-    reported(
-        p,
-        text,
-        cases::trying::try_case(text, memory, wanted, rom),
-    )
+    reported(p, text, cases::trying::try_case(text, memory, wanted, rom))
 }
 
 fn try_wide(
@@ -120,11 +116,7 @@ fn try_wide(
     wanted: &mut [u8; 65536],
     rom: &mut [u8; 1048576],
 ) -> Progress {
-    reported(
-        p,
-        text,
-        cases::trying::try_case(text, memory, wanted, rom),
-    )
+    reported(p, text, cases::trying::try_case(text, memory, wanted, rom))
 }
 
 fn try_large(
@@ -134,11 +126,7 @@ fn try_large(
     wanted: &mut [u8; 16777216],
     rom: &mut [u8; 1048576],
 ) -> Progress {
-    reported(
-        p,
-        text,
-        cases::trying::try_case(text, memory, wanted, rom),
-    )
+    reported(p, text, cases::trying::try_case(text, memory, wanted, rom))
 }
 
 fn small_case(p: Progress, line: &[u8]) -> Progress {
