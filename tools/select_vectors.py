@@ -3,7 +3,7 @@
 
 Usage: tools/select_vectors.py FOLDER | tools/wrong_cases.py crates/vectors
 
-       tools/select_vectors.py FOLDER NAME     all cases of one file, for `vectors` by hand: plain .., k7/inside .., k10/rom
+       tools/select_vectors.py FOLDER NAME     all cases of one file, for `vectors` by hand: plain .., k7/inside, k10/rom
 
 FOLDER holds the vector files, NAME.vec.gz, a case to a line (crates/vectors/README.md), and beside each k2/NAME.clk.gz,
 the clocks of its cases in the same order, a number to a line: they become the line's field clocks=N. Of the requests
@@ -11,10 +11,10 @@ that change what a step does, k3/NAME.vec.gz and k4/NAME.vec.gz have the cases t
 each takes the place of the case with the same first seven fields. k7/NAME.vec.gz and k10/NAME.vec.gz have cases of
 their own, whole as they stand. Chosen are, of the cases whose memory is 65,536 bytes or less: all of choice, halt,
 interrupt, oddjump, scope and k7/interrupt; of every other file three cases of each name, spread evenly over those that
-it has, but of k7's and k10's, where that would be most of the gate's cases, three of each instruction, and what is then
-still missing of one for each instruction with each length of ROM, and of one for each pair of operand kinds; and what is
-then still missing of three for each flag string. Where there are fewer, all. The choice depends on nothing but the
-files, and keeps their order.
+it has, but of k7's and k10's, where that would be most of the gate's cases, three of each instruction, and what is
+then still missing of one for each instruction with each length of ROM, and of one for each pair of operand kinds; and
+what is then still missing of three for each flag string. Where there are fewer, all. The choice depends on nothing but
+the files, and keeps their order.
 """
 import collections
 import gzip
