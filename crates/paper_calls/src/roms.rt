@@ -188,8 +188,18 @@ fn memory_with_frame() -> [u8; 1024] {
     m
 }
 
+// The undo of it puts slots and frame back.
+fn undo_there(s: &mut [u32; SLOTS], m: &mut [u8; 1024], rom: &[u8; 4], j: &[u8; 536], mark: usize) {
+    let a = machine::undo(s, TO_ROM_END, m, rom, j, mark);
+    show(b"and its undo: number ", a.number);
+    show_count(b", mark ", a.mark as u64);
+    end_line();
+    tell_slots(s, slots_on_rom(1024, 512, 0));
+    tell_memory(m, memory_with(62, 128));
+}
+
 // MOVE.W D0,(A7) in user state with USP $F00002 takes vector 2, whose handler is at 0. Its record names three slots, in 8 bytes, and the
-// frame's seven bytes that were not 0, in 21; with the two counts that is 31. The undo puts slots and frame back.
+// frame's seven bytes that are not 0, in 21; with the two counts that is 31.
 fn write_there() {
     let rom = four_bytes();
     let mut s = slots_on_rom(1024, 512, 0);
@@ -202,12 +212,7 @@ fn write_there() {
     end_line();
     tell_slots(&s, slots_on_rom(1010, 0, 8192));
     tell_memory(&m, memory_with_frame());
-    let b = machine::undo(&mut s, TO_ROM_END, &mut m, &rom, &j, a.mark);
-    show(b"and its undo: number ", b.number);
-    show_count(b", mark ", b.mark as u64);
-    end_line();
-    tell_slots(&s, slots_on_rom(1024, 512, 0));
-    tell_memory(&m, memory_with(62, 128));
+    undo_there(&mut s, &mut m, &rom, &j, a.mark);
 }
 
 pub fn show_all() {

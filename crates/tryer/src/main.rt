@@ -224,11 +224,15 @@ fn try_with(n: usize, w: Words, memory: &mut [u8; MEMORY], rom: &[u8], length: u
     try_image(n, w, memory, &rom[0..length]);
 }
 
+fn lend_rom(n: usize, w: Words, memory: &mut [u8; MEMORY], rom: &[u8; MOST_ROM], length: usize) {
+    try_with(n, w, memory, rom, length);
+}
+
 // Reads the ROM, and tries.
 fn try_beside(n: usize, w: Words, memory: &mut [u8; MEMORY]) {
     let mut rom = [0u8; MOST_ROM];
     let length = rom::read(&mut rom);
-    try_with(n, w, memory, &rom, length);
+    lend_rom(n, w, memory, &rom, length);
 }
 
 fn main() {

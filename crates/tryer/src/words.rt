@@ -113,7 +113,7 @@ pub fn read() -> Words {
 
 // Whether there are not too many words, and each is a number.
 pub fn are_good(w: Words) -> bool {
-    if FILE + 1 < os::arg_count() {
+    if 7 < os::arg_count() {
         return false;
     }
     w.lo < NO_NUMBER
