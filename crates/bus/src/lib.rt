@@ -262,8 +262,8 @@ fn room_byte(mem: &Parts, a: u32, f: Flow) -> Flow
     if clean {
         let first = low(mem);
         let there = below(mem);
-        let inside = (first <= i) & (i < there.len());
-        if inside {
+        let free = (first <= i) & (i < there.len());
+        if free {
             return f;
         }
         return failed(f, codes::BUS_ERROR, p, codes::DATA_WRITE);
@@ -285,8 +285,8 @@ fn room_word(mem: &Parts, a: u32, f: Flow) -> Flow
         }
         let first = low(mem);
         let there = below(mem);
-        let inside = (first <= i) & (i + 1 < there.len());
-        if inside {
+        let free = (first <= i) & (i + 1 < there.len());
+        if free {
             return f;
         }
         return failed(f, codes::BUS_ERROR, p, codes::DATA_WRITE);

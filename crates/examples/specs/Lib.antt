@@ -2,3 +2,4 @@ pub mod Paper
 pub mod ClockRows
 pub mod OddRows
 pub mod WindowRows
+pub mod RomRows
