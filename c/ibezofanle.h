@@ -256,7 +256,7 @@ struct ibz_form_answer {
 };
 
 /* A part of memory or of the ROM, where it lies in what was lent. */
-struct ibz_part {
+struct ibz_slice {
   const uint8_t *bytes;
   size_t length;
 };
@@ -322,7 +322,7 @@ struct ibz_back_answer ibz_take_back(uint8_t *block, size_t block_length, uint32
  *   It returns the number (enum ibz_number). A part that is refused is empty, at memory's start. What `part` holds before the call is a part
  * too: {NULL, 0}, or what an earlier call gave of bytes that are still there. It lies outside of memory and ROM. */
 uint32_t ibz_part(const uint8_t *memory, size_t memory_length, const uint8_t *rom, size_t rom_length, uint64_t address, uint64_t length,
-                  struct ibz_part *part);
+                  struct ibz_slice *part);
 
 /* ---- journals for posting */
 

@@ -447,7 +447,7 @@ static void layout(void) {
   EXPECT(sizeof(struct ibz_run_answer) == 40 && sizeof(struct ibz_undo_answer) == 16);
   EXPECT(sizeof(struct ibz_try_answer) == 24 && sizeof(struct ibz_back_answer) == 24);
   EXPECT(sizeof(struct ibz_form_answer) == 16 && offsetof(struct ibz_form_answer, length) == 8);
-  EXPECT(sizeof(struct ibz_part) == 16 && offsetof(struct ibz_part, length) == 8);
+  EXPECT(sizeof(struct ibz_slice) == 16 && offsetof(struct ibz_slice, length) == 8);
   EXPECT(offsetof(struct ibz_reset_answer, lo) == 4 && offsetof(struct ibz_reset_answer, hi) == 8);
   EXPECT(offsetof(struct ibz_try_answer, number) == 4 && offsetof(struct ibz_try_answer, vector) == 8);
   EXPECT(offsetof(struct ibz_try_answer, steps) == 12 && offsetof(struct ibz_try_answer, mark) == 16);

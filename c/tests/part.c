@@ -8,11 +8,13 @@ enum { MEMORY = 4096, JOURNAL = 2048, BLOCK = IBZ_BLOCK_LENGTH, SUPERVISOR = 0x2
 static uint8_t *block, *memory, *journal, *rom, old_block[BLOCK], old_journal[JOURNAL];
 static int at_end;
 
+#define FAR (~(uint64_t)0)
+
 /* ---- refusals: 12, and 10 by the new end */
 
 /* Whether every call gives this number, of these lengths and this window; alters nothing where it is not 0, and is done where it is. */
 static int numbered(uint8_t *m, size_t length, const uint8_t *r, size_t rom_length, uint32_t from, uint32_t to, uint32_t n) {
-  struct ibz_part p = {r, 1};
+  struct ibz_slice p = {r, 1};
   int good = 1;
   for (unsigned call = 0; call < 7; call++) {
     memset(block, 0, BLOCK), memset(journal, 0, 8), ibz_set(block, IBZ_PC, 0x200);
@@ -93,7 +95,7 @@ static void refusals(void) {
 /* Asks for a part, and says whether it is the very one: so many bytes from there. Memory and ROM stay. */
 static int is_part(const uint8_t *m, size_t length, const uint8_t *r, size_t rom_length, uint64_t address, uint64_t many, uint32_t number,
                    const uint8_t *there) {
-  struct ibz_part p = {memory + 1, 1};
+  struct ibz_slice p = {memory + 1, 1};
   const uint32_t n = ibz_part(m, length, r, rom_length, address, many, &p);
   const int good = n == number && p.bytes == there && p.length == (number == 0 ? many : 0);
   if (!good) printf("the part of %llX bytes at %llX\n", (unsigned long long)many, (unsigned long long)address);
@@ -102,7 +104,6 @@ static int is_part(const uint8_t *m, size_t length, const uint8_t *r, size_t rom
 
 static void parts(void) {
   enum { NEITHER = 0, OF_MEMORY, OF_ROM };
-  static const uint64_t far = UINT64_MAX;
   static const struct { uint64_t address, many; int where; } cases[] = {
       {0, 0, OF_MEMORY},           {0, 1, OF_MEMORY},              {0, MEMORY, OF_MEMORY},       {0, MEMORY + 1, NEITHER},
       {1, MEMORY - 1, OF_MEMORY},  {1, MEMORY, NEITHER},           {MEMORY - 1, 1, OF_MEMORY},   {MEMORY - 1, 2, NEITHER},
@@ -112,10 +113,10 @@ static void parts(void) {
       {END - 1, 1, OF_ROM},        {END - 1, 2, NEITHER},          {END, 0, OF_ROM},             {END, 1, NEITHER},
       {END + 1, 0, NEITHER},       {0x1000000, 0, NEITHER},        {0x1000000, 1, NEITHER},      {0x1000000 + START, 0, NEITHER},
       {0x1000000 + START, 1, NEITHER}, {(uint64_t)1 << 32, 1, NEITHER}, {((uint64_t)1 << 32) + START, 1, NEITHER}, {(uint64_t)1 << 63, 0, NEITHER},
-      {0, (uint64_t)1 << 32, NEITHER}, {START, ((uint64_t)1 << 32) + 1, NEITHER}, {far, 0, NEITHER}, {far, 1, NEITHER},
-      {far, 2, NEITHER},           {far, far, NEITHER},            {0, far, NEITHER},            {1, far, NEITHER},
-      {2, far, NEITHER},           {MEMORY, far - MEMORY + 1, NEITHER}, {START, far, NEITHER},   {START, far - START + 1, NEITHER},
-      {END, far - ROM + 1, NEITHER}, {START + 1, far, NEITHER},    {far - ROM + 1, ROM, NEITHER}, {(uint64_t)1 << 63, (uint64_t)1 << 63, NEITHER}};
+      {0, (uint64_t)1 << 32, NEITHER}, {START, ((uint64_t)1 << 32) + 1, NEITHER}, {FAR, 0, NEITHER}, {FAR, 1, NEITHER},
+      {FAR, 2, NEITHER},           {FAR, FAR, NEITHER},            {0, FAR, NEITHER},            {1, FAR, NEITHER},
+      {2, FAR, NEITHER},           {MEMORY, FAR - MEMORY + 1, NEITHER}, {START, FAR, NEITHER},   {START, FAR - START + 1, NEITHER},
+      {END, FAR - ROM + 1, NEITHER}, {START + 1, FAR, NEITHER},    {FAR - ROM + 1, ROM, NEITHER}, {(uint64_t)1 << 63, (uint64_t)1 << 63, NEITHER}};
   for (unsigned i = 0; i < sizeof cases / sizeof *cases; i++) {
     const int where = cases[i].where;
     const uint8_t *const there = where == OF_MEMORY ? memory + cases[i].address : where == OF_ROM ? rom + (cases[i].address - START) : memory;
@@ -132,11 +133,11 @@ static void parts(void) {
   EXPECT(is_part(m, 16777216, rom, 0, 16777216, 0, 0, m + 16777216) && is_part(m, 16777216, rom, 0, 16777216, 1, 13, m));
   EXPECT(is_part(m, 16777216, rom, 0, 16777217, 0, 13, m) && is_part(m, START + 16, rom, 0, START + 8, 8, 0, m + START + 8));
   /* 1, then 12, then 13 */
-  EXPECT(is_part(memory, 1023, rom, ROM, 0, 1, 1, memory) && is_part(memory, 1023, rom, 1, far, far, 1, memory));
-  EXPECT(is_part(memory, MEMORY, rom, 1, 0, 1, 12, memory) && is_part(memory, MEMORY, rom, 63, far, far, 12, memory));
+  EXPECT(is_part(memory, 1023, rom, ROM, 0, 1, 1, memory) && is_part(memory, 1023, rom, 1, FAR, FAR, 1, memory));
+  EXPECT(is_part(memory, MEMORY, rom, 1, 0, 1, 12, memory) && is_part(memory, MEMORY, rom, 63, FAR, FAR, 12, memory));
   EXPECT(is_part(m, START + 2, rom, ROM, 0, 1, 12, m) && is_part(NULL, 0, IBZ_NO_ROM, 0, 0, 1, NULL));
   /* it is the very bytes: what is written later stands in it */
-  struct ibz_part p = {NULL, 0};
+  struct ibz_slice p = {NULL, 0};
   EXPECT(ibz_part(memory, MEMORY, rom, ROM, 0x700, 2, &p) == 0 && p.length == 2);
   memory[0x701] = 0x77;
   EXPECT(p.bytes[1] == 0x77 && ibz_part(memory, MEMORY, rom, ROM, END - 1, 1, &p) == 0 && p.bytes == rom + ROM - 1);

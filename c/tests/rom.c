@@ -268,8 +268,8 @@ static void fetches(unsigned sr) {
   const unsigned a7 = sr != 0 ? IBZ_SSP : IBZ_USP;
   struct ibz_step_answer a;
   for (unsigned i = 0; i < sizeof ops / sizeof *ops; i++) {
-    set_up(ops[i].vector == 0 ? ops[i].pc & 0xFFFFFFu : CODE, moveq, 1, 0, sr);
-    ibz_set(block, IBZ_PC, ops[i].pc), keep();
+    set_up(CODE, moveq, 1, 0, sr), ibz_set(block, IBZ_PC, ops[i].pc), keep();
+    if (ops[i].vector == 0) burn(ops[i].pc & 0xFFFFFFu, moveq, 1);
     a = step();
     if (ops[i].vector != 0) EXPECT(blamed(a, ops[i].vector, program, ops[i].pc, 0));
     else EXPECT(a.event == 0 && a.clocks == 4 && ibz_get(block, IBZ_D1) == 1 && ibz_get(block, IBZ_PC) == ops[i].pc + 2 && undone(a.mark));
@@ -530,7 +530,8 @@ static void tries(void) {
   const struct ibz_step_answer s = ibz_step(block, BLOCK, r.lo, r.hi, memory, MEMORY, rom, ROM, 0, 0, journal, JOURNAL, 0);
   EXPECT(s.number == 0 && s.event == 0 && ibz_get(block, IBZ_D1) == 1 && ibz_get(block, IBZ_PC) == START + 2); /* as supervisor */
   for (unsigned i = 0; i < 3; i++) {
-    set_up(START, pattern, 8, 0, 0), lo = i == 1 ? 0x580 : 0, hi = i == 2 ? MEMORY : END;
+    set_up(START, pattern, 8, 0, 0), lo = i == 1 ? 0x580 : 0;
+    if (i == 2) hi = MEMORY;
     const struct ibz_try_answer a = try_from(10, 0);
     if (i == 2) { /* the reset's window: its first word is outside */
       EXPECT(a.end == IBZ_END_EXCEPTION && a.vector == 2 && a.steps == 1);
