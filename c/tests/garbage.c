@@ -330,7 +330,7 @@ static unsigned long found_in[2]; /* parts of some bytes, of memory and of the R
 static int holds_it(uint64_t n, uint64_t place, uint64_t many) { return place <= n && many <= n - place; }
 
 static uint32_t one_part(void) {
-  const uint64_t ends[] = {0, memory_length, IBZ_ROM_START, IBZ_ROM_START + rom_length, any(), (uint64_t)any() << 32, ~(uint64_t)0};
+  const uint64_t ends[] = {0, memory_length, IBZ_ROM_START, IBZ_ROM_START + rom_length, any(), (uint64_t)any() << 32, UINT64_MAX};
   const uint64_t from = ends[below(7)] + below(3) - 1, to = ends[below(7)] + below(3) - 1;
   const uint64_t address = below(2) ? from : from + below(64), many = below(2) ? to - address : below(4) ? below(64) : to;
   struct ibz_slice p = {journal, journal_length};

@@ -8,7 +8,7 @@ enum { MEMORY = 4096, JOURNAL = 2048, BLOCK = IBZ_BLOCK_LENGTH, SUPERVISOR = 0x2
 static uint8_t *block, *memory, *journal, *rom, old_block[BLOCK], old_journal[JOURNAL];
 static int at_end;
 
-#define FAR (~(uint64_t)0)
+#define FAR UINT64_MAX
 
 /* ---- refusals: 12, and 10 by the new end */
 
