@@ -11,8 +11,8 @@
  *   mark     how many bytes of the journal are in use. 0 at first; then always the mark that the last call returned
  *   window   two numbers, lo and hi: the addresses, from lo to below hi, that a program in user state can reach. ibz_reset tells them,
  *            0 and memory's length, which is all of memory; no step and no undo changes them. The library does not keep them: each
- *            call is given them, and another window is set by giving it another. hi is at most memory's length, and where there is a ROM
- *            at most 0xF00000 and the ROM's length
+ *            call is given them, and another window is set by giving it another. hi is at most memory's length; where there is a ROM,
+ *            at most 0xF00000 plus its length
  *
  * ibz_reset sets the state as the processor's reset does. ibz_step does one instruction, or takes one interrupt, and writes at the
  * mark how to take it back. ibz_run does many. ibz_undo takes the last step back: block and memory are then, byte for byte, what
@@ -24,7 +24,7 @@
  * reads what it is to write reads it there, and fails as it writes. An exception whose frame would lie in it halts the machine, as every
  * frame that can not be written. So no record names an address of the ROM, and a record that does is refused (IBZ_BAD_RECORD). A reset's
  * window has nothing of it: a program in user state reaches the ROM once you give a hi above 0xF00000. Give every call the same ROM, as
- * every call the same memory. With a ROM of 0 bytes all is as if there were none, whatever is said of it here.
+ * every call the same memory. A ROM of 0 bytes is none: memory may then reach beyond 0xF00000, and hi goes by its length.
  *
  * The window fences user state, where SR has no bit 0x2000 (S). There a byte or a word that is read or written and does not lie wholly in
  * it, be it an operation word, an extension word, an operand or on the stack, is a bus error, as outside memory and ROM; a word at an odd
@@ -156,8 +156,8 @@ enum ibz_number {
                           * A conversion: read from the journal's end, on the way back to place 0, stands no well-shaped record of the form
                           * that it is to be in, with addresses below 16,777,216, whatever the memory */
   IBZ_NO_BLOCK = 9,      /* the block is not 80 bytes long; nothing else is looked at */
-  IBZ_BAD_WINDOW = 10,   /* lo is above hi; or hi is above memory's length and there is no ROM, or hi is above 0xF00000 and the ROM's length.
-                          * lo and hi may be equal: nothing is inside */
+  IBZ_BAD_WINDOW = 10,   /* lo is above hi; or hi is above memory's length, or where there is a ROM, above 0xF00000 plus its length. lo and hi
+                          * may be equal: nothing is inside */
   IBZ_TARGET_SHORT = 11, /* the target is shorter than the journal in the other form */
   IBZ_BAD_ROM = 12,      /* the ROM's length is odd or above 1,048,576; or it is above 0, and memory's length is above 15,728,640 */
   IBZ_NO_PART = 13       /* neither memory nor the ROM holds that part */
@@ -319,8 +319,8 @@ struct ibz_back_answer ibz_take_back(uint8_t *block, size_t block_length, uint32
  * is tried first: it holds the part if address + length is at most its length. Else the ROM holds it if address is 0xF00000 or above, and
  * address - 0xF00000 + length is at most the ROM's length. All 64 bits of both count: the address is not cut to 24 bits, and no sum wraps.
  * A part of 0 bytes may lie at the end of either slice; at 0xF00000 that is so of a ROM of 0 bytes too. The window plays no role.
- *   It returns the number (enum ibz_number). A part that is refused is empty, at memory's start. What `part` holds before the call is a part
- * too: {NULL, 0}, or what an earlier call gave of bytes that are still there. It lies outside of memory and ROM. */
+ *   It returns the number (enum ibz_number). A part that is refused is empty, at memory's start. `part` is not NULL, lies outside of memory and
+ * ROM, and holds a part before the call too: {NULL, 0}, or what an earlier call gave of bytes that are still there. */
 uint32_t ibz_part(const uint8_t *memory, size_t memory_length, const uint8_t *rom, size_t rom_length, uint64_t address, uint64_t length,
                   struct ibz_slice *part);
 

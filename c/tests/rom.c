@@ -1,7 +1,7 @@
 /* rom.c - the ROM, by hand: each access at its edges, from memory and from the ROM itself, in both states and under the window; writes, which
  * fail; what lies across memory's end and the ROM's start; frames; the way back, and records that name the ROM; a reset's window; tries of
- * a program there (part.c has the refusals and the part). All of it twice, on buffers that end where pages that can not be touched begin,
- * and on such that begin where they end; and the ROM's pages can not be written. */
+ * a program there, and a full journal. (part.c has the refusals and the part.) All of it twice, on buffers that end where pages that can not
+ * be touched begin, and on such that begin where they end; and the ROM's pages can not be written. */
 #include "tests.h"
 
 enum { MEMORY = 4096, JOURNAL = 2048, BLOCK = IBZ_BLOCK_LENGTH, SUPERVISOR = 0x2000, TRACE = 0x8000 };
@@ -550,6 +550,32 @@ static void tries(void) {
   }
 }
 
+/* ---- a full journal: ADDQ #1,D1 and a branch to it, in the ROM. Their records have 10 bytes, once D1 is above 127, and 7 */
+
+static void full(unsigned sr) {
+  enum { SHORT = 600 }; /* 64 bytes and 536 */
+  static const uint16_t pattern[] = {0x5241, 0x60FC};
+  for (unsigned runs = 0; runs < 2; runs++) { /* by steps, and by a run */
+    set_up(START, pattern, 2, 0, sr);
+    uint64_t dropped = 0, clocks = 0;
+    size_t mark = 0;
+    for (unsigned i = 0; i < 1000 && runs == 0; i++) {
+      const struct ibz_step_answer a = ibz_step(block, BLOCK, lo, hi, memory, MEMORY, rom, ROM, 0, 0, journal, SHORT, mark);
+      EXPECT(a.number == 0);
+      mark = a.mark, dropped += a.dropped, clocks += a.clocks;
+    }
+    if (runs) {
+      const struct ibz_run_answer a = ibz_run(block, BLOCK, lo, hi, memory, MEMORY, rom, ROM, 1000, 1, journal, SHORT, 0);
+      EXPECT(a.number == 0 && a.steps == 1000 && a.reason == IBZ_REASON_BUDGET);
+      mark = a.mark, dropped = a.dropped, clocks = a.clocks;
+    }
+    EXPECT(ibz_get(block, IBZ_D1) == 500 && ibz_get(block, IBZ_PC) == START && clocks == 500 * (4 + 10));
+    EXPECT(mark == 4 * 10 + 4 * 7 && dropped == 1000 - 8); /* of 61 bytes, the most that leave 536, and the last */
+    const struct ibz_back_answer b = ibz_take_back(block, BLOCK, lo, hi, memory, MEMORY, rom, ROM, journal, SHORT, mark, 9, 5, 6);
+    EXPECT(b.number == IBZ_NO_RECORD && b.undone == 8 && b.mark == 0 && ibz_get(block, IBZ_D1) == 496 && ibz_get(block, IBZ_PC) == START);
+  }
+}
+
 int main(void) {
   for (at_end = 0; at_end < 2; at_end++) {
     block = guarded(BLOCK, at_end), memory = guarded(MEMORY, at_end), journal = guarded(JOURNAL, at_end), rom = guarded(ROM, at_end);
@@ -562,6 +588,8 @@ int main(void) {
     large();
     records();
     tries();
+    full(0);
+    full(SUPERVISOR);
   }
   return verdict("rom");
 }
