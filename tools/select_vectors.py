@@ -3,17 +3,18 @@
 
 Usage: tools/select_vectors.py FOLDER | tools/wrong_cases.py crates/vectors
 
-       tools/select_vectors.py FOLDER NAME     all cases of one file, for `vectors` by hand: plain .., k7/inside ..
+       tools/select_vectors.py FOLDER NAME     all cases of one file, for `vectors` by hand: plain .., k7/inside, k10/rom
 
 FOLDER holds the vector files, NAME.vec.gz, a case to a line (crates/vectors/README.md), and beside each k2/NAME.clk.gz,
 the clocks of its cases in the same order, a number to a line: they become the line's field clocks=N. Of the requests
 that change what a step does, k3/NAME.vec.gz and k4/NAME.vec.gz have the cases that are then other, with their clocks:
-each takes the place of the case with the same first seven fields. k7/NAME.vec.gz has cases of its own, whole as they
-stand. Chosen are, of the cases whose memory is 65,536 bytes or less: all of choice, halt, interrupt, oddjump, scope and
-k7/interrupt; of every other file three cases of each name, spread evenly over those that it has, but of k7's, where
-that would be most of the gate's cases, three of each instruction and what is then still missing of one for each pair of
-operand kinds; and what is then still missing of three for each flag string. Where there are fewer, all. The choice
-depends on nothing but the files, and keeps their order.
+each takes the place of the case with the same first seven fields. k7/NAME.vec.gz and k10/NAME.vec.gz have cases of
+their own, whole as they stand. Chosen are, of the cases whose memory is 65,536 bytes or less: all of choice, halt,
+interrupt, oddjump, scope and k7/interrupt; of every other file three cases of each name, spread evenly over those that
+it has, but of k7's and k10's, where that would be most of the gate's cases, three of each instruction, and what is
+then still missing of one for each instruction with each length of ROM, and of one for each pair of operand kinds; and
+what is then still missing of three for each flag string. Where there are fewer, all. The choice depends on nothing but
+the files, and keeps their order.
 """
 import collections
 import gzip
@@ -22,11 +23,12 @@ import sys
 
 WHOLE = {"choice", "halt", "interrupt", "oddjump", "scope", "k7/interrupt"}
 REPLACED_BY = ("k3", "k4")  # in the order in which they came
-ADDED_BY = ("k7",)
+ADDED_BY = ("k7", "k10")
 GIVEN = 7  # fields that say what a case is; the others say what comes of it
 EACH = 3
 LARGEST = 65536
 SUFFIX = ".vec.gz"
+ROM_NAME = " rom="
 
 
 def spread(items, n):
@@ -49,6 +51,11 @@ def given(line):
 def added(name):
     """Whether a file has a request's own cases."""
     return name.split("/")[0] in ADDED_BY
+
+
+def rom_length(line):
+    """The length of a case's ROM, as it is written; nothing where it has none."""
+    return line.partition(ROM_NAME)[2].split(",")[0].strip()
 
 
 def timed(folder, name):
@@ -92,19 +99,20 @@ def main():
         sys.exit(f"no *{SUFFIX} in {sys.argv[1]}")
     cases, chosen = [], set()
     for file in files:
-        by_name, by_kinds = collections.defaultdict(list), collections.defaultdict(list)
+        by_name, by_rom, by_kinds = (collections.defaultdict(list) for _ in range(3))
         for line in timed(folder, file):
             name, flags, length = line.split(" ", 3)[:3]
             if int(length, 16) > LARGEST:
                 continue
             if added(file):
                 name, kinds = name.split(":")
+                by_rom[name, rom_length(line)].append(len(cases))
                 by_kinds[kinds].append(len(cases))
             by_name[name].append(len(cases))
             cases.append((flags, line))
         for places in by_name.values():
             chosen.update(places if file in WHOLE else spread(places, EACH))
-        for places in by_kinds.values():
+        for places in (*by_rom.values(), *by_kinds.values()):
             if chosen.isdisjoint(places):
                 chosen.add(places[0])
     by_flags = collections.defaultdict(list)

@@ -52,11 +52,13 @@ VECTOR_2 = 8
 MARK = 1000
 LONGEST = 8192
 
-# fields of a line, counted from 0; after these, a true case has its clocks, and perhaps a window
+# fields of a line, counted from 0; after these, a true case has its clocks, and perhaps a window, and after that a ROM
 NAME, LENGTH, LEVEL, VECTOR, START, MEMORY, SLOTS_AFTER, MEMORY_AFTER, RECORD = 0, 2, 3, 4, 5, 6, 7, 8, 9
 FIELDS = 10
 CLOCKS_NAME = "clocks="
 WINDOW_NAME = "window="
+ROM_NAME = "rom="
+ROM_START = 0xF00000
 LO, HI = 0, 1
 
 
@@ -86,14 +88,18 @@ class Case:
         fields = line.split(" ")
         self.fields, self.last = fields[:FIELDS], fields[FIELDS:]
         names = [text[:text.find("=") + 1] for text in self.last]
-        if names not in ([CLOCKS_NAME], [CLOCKS_NAME, WINDOW_NAME]):
+        if not names or names != [CLOCKS_NAME, WINDOW_NAME, ROM_NAME][:len(names)]:
             sys.exit(f"no case with clocks: {line}")
         self.timed = self.last[0]
         self.clocks = int(self.timed[len(CLOCKS_NAME):])
         self.length = int(self.fields[LENGTH], 16)
         self.window = [0, self.length]
-        if len(self.last) == 2:
+        if len(self.last) > 1:
             self.window = [int(end, 16) for end in self.last[1][len(WINDOW_NAME):].split(",")]
+        self.rom, self.rom_end = {}, ROM_START
+        if len(self.last) > 2:
+            length, _, runs = self.last[2][len(ROM_NAME):].partition(",")
+            self.rom, self.rom_end = bytes_of(runs or "-"), ROM_START + int(length, 16)
         self.start = [int(v, 16) for v in self.fields[START].split(",")]
         self.slots = list(self.start)
         for change in self.fields[SLOTS_AFTER].split(",") if self.fields[SLOTS_AFTER] != "-" else []:
@@ -116,9 +122,19 @@ class Case:
         """The line with another window."""
         return self.but(f"window-{name}", last=[self.timed, f"{WINDOW_NAME}{lo:x},{hi:x}"])
 
+    def rom_length(self):
+        return self.rom_end - ROM_START
+
+    def beside(self, name, length, rom=None):
+        """The line with another ROM; where nothing is said of its bytes, with those that it still holds."""
+        end = ROM_START + length
+        kept = {place: b for place, b in (self.rom if rom is None else rom).items() if place < end}
+        runs = [runs_of(kept)] if kept else []
+        return self.but(f"rom-{name}", last=[*self.last[:2], ",".join([f"{ROM_NAME}{length:x}", *runs])])
+
     def number_at(self, place, n):
-        """The number that n bytes of memory spell after the step."""
-        after = self.memory | self.changed
+        """The number that n bytes of memory or of ROM spell after the step."""
+        after = self.memory | self.changed | self.rom
         return int.from_bytes(bytes(after.get(place + i, 0) for i in range(n)), "big")
 
     def fetched(self):
@@ -239,6 +255,64 @@ def window_lines(cases):
         yield UNDO_MARK, case.but(name, undo=["0", "-", "-", "0"], last=last)
 
 
+def rom_lines(cases):
+    """The ROM: a byte of it; its length, which lets an access in or shuts it out; a ROM left out, and ROMs that are
+    refused; a window's ends in it; and true ROMs, where other things are still compared.
+    """
+    def first(begins, holds=lambda c: True):
+        return next(c for c in map(Case, (c for c in cases if c.startswith(begins))) if holds(c))
+
+    def altered(name, case, place):
+        return case.beside(f"{name}-altered", case.rom_length(), case.rom | {place: case.rom.get(place, 0) ^ 1})
+
+    def through(name, case, *by):
+        ends = ",".join(f"{end + more:x}" for end, more in zip(case.window, by))
+        return case.but(f"rom-{name}", last=[case.timed, f"{WINDOW_NAME}{ends}", *case.last[2:]])
+
+    # the lowest bit of a byte, which the register that is written then shows
+    read = first("SUB.L:(An)>Dn r ", lambda c: ROM_START <= c.pointed() and c.window[HI] <= c.length)
+    yield STEP_SLOTS, altered("operand", read, read.pointed() + 3)
+    fetched = first("SUBI.W:#>Dn r ", lambda c: ROM_START <= c.fetched())
+    yield STEP_SLOTS, altered("immediate", fetched, fetched.fetched() + 3)
+    fetched = first("MOVEQ:q>Dn r ", lambda c: ROM_START <= c.fetched())
+    yield STEP_SLOTS, altered("operation-word", fetched, fetched.fetched() + 1)
+    # two bytes fewer or more. Scc reads before it writes, and a long is two words: let in, the second of these fails
+    for reason, name, begins, holds, more in (
+            (STEP_SLOTS, "byte-at-end-shut-out", "CMPI.B:#>(An) r ", lambda c: c.pointed() == c.rom_end - 1, -2),
+            (STEP_SLOTS, "fetch-at-end-shut-out", "MOVEQ:q>Dn r ", lambda c: c.fetched() == c.rom_end - 2, -2),
+            (STEP_SLOTS, "fetch-past-end-let-in", "ORI.B:#>Dn rf ", lambda c: c.blamed() == c.rom_end, 2),
+            (STEP_MEMORY, "read-of-scc-let-in", "SNE:>(An)+ rf ", lambda c: c.blamed() == c.rom_end, 2),
+            (STEP_MEMORY, "half-a-long-let-in", "SUB.L:Dn>(An) rf ", lambda c: c.blamed() == c.rom_end, 2)):
+        case = first(begins, lambda c: holds(c) and c.window[HI] <= c.length)
+        yield reason, case.beside(name, case.rom_length() + more)
+    yield STEP_SLOTS, read.but("rom-left-out", last=read.last[:2])
+    yield STEP_SLOTS, read.beside("empty", 0)
+    yield STEP_NUMBER, read.beside("one-byte-shorter", read.rom_length() - 1)
+    yield STEP_NUMBER, read.beside("of-one-byte", 1)
+    # in user state
+    inside = first("MOVE.B:(An)>(An)+ ru ", lambda c: ROM_START <= c.pointed() == c.window[HI] - 1)
+    yield STEP_SLOTS, through("byte-below-hi-shut-out", inside, 0, -1)
+    outside = first("ADD.W:An>Dn rfu ", lambda c: ROM_START <= c.blamed() == c.window[HI] - 1 < c.rom_end - 1)
+    yield STEP_SLOTS, through("fetch-cut-by-hi-let-in", outside, 0, 1)
+    outside = first("CMP.W:An>Dn rfu ", lambda c: ROM_START <= c.blamed() == c.window[LO] - 1)
+    yield STEP_SLOTS, through("fetch-cut-by-lo-let-in", outside, -1, 0)
+    whole = first("SUB.W:(An)>Dn ru ", lambda c: c.window[HI] == c.rom_end)
+    yield STEP_NUMBER, through("hi-past-end", whole, 0, 1)
+    yield STEP_NUMBER, whole.beside("shorter-than-hi", whole.rom_length() - 2)
+    yield STEP_NUMBER, whole.but("rom-left-out-below-hi", last=whole.last[:2])
+    # a write: the frame says that it was one
+    write = first("MOVE.L:An>(An) rfw ", lambda c: ROM_START <= c.blamed() < c.rom_end)
+    place = write.slots[SSP] % ADDRESSES + 1
+    changed = write.changed | {place: write.number_at(place, 1) ^ 0x10}
+    yield STEP_MEMORY, write.but("rom-write-blamed-as-read", (MEMORY_AFTER, runs_of(changed)))
+    changes = (SLOTS_AFTER, read.changes(with_bit(read.slots, 0, 0)))
+    yield STEP_SLOTS, read.but("rom-slot-0", changes)
+    yield STEP_SLOTS, read.but("rom-no-clocks-slot-0", changes, last=read.last[1:])
+    yield STEP_CLOCKS, read.but("rom-clocks", last=[f"{CLOCKS_NAME}{read.clocks + 1}", *read.last[1:]])
+    for name, last in ("rom-undo-mark", read.last), ("rom-no-clocks-undo-mark", read.last[1:]):
+        yield UNDO_MARK, read.but(name, undo=["0", "-", "-", "0"], last=last)
+
+
 def undo_lines(case):
     """What is compared after the undo."""
     def undone(name, number="0", slots="-", memory="-", mark=f"{MARK:x}"):
@@ -298,6 +372,25 @@ def no_cases(case):
             ("before-other-field", "window=0,10000 other=1")):
         yield case.but(f"window-{name}", last=[case.timed, last])
     yield case.but("window-alone-letter", last=["window=x,10000"])
+    whole = "window=0,10000"
+    yield case.but("rom-without-window", last=[case.timed, "rom=10"])
+    yield case.but("rom-alone", last=["rom=10"])
+    yield case.but("rom-before-window", last=[case.timed, "rom=10", whole])
+    yield case.but("rom-before-clocks", last=[whole, "rom=10", case.timed])
+    yield case.but("rom-window-letter", last=[case.timed, "window=0,x", "rom=10"])
+    for name, last in (
+            ("length-letter", "rom=1g"), ("no-length", "rom="), ("no-length-before-run", "rom=,f00000:00"),
+            ("nine-digits", "rom=000000010"), ("minus", "rom=-10"), ("length-large", "rom=100002"),
+            ("two-signs", "rom==10"), ("no-sign", "rom"), ("no-name", "=10"), ("other-name", "roms=10"),
+            ("capitals", "ROM=10"), ("two-spaces", " rom=10"), ("twice", "rom=10 rom=10"),
+            ("after-other-field", "other=1 rom=10"), ("before-other-field", "rom=10 other=1"),
+            ("place-letter", "rom=10,f0000g:00"), ("place-counted-from-0", "rom=10,0:00"),
+            ("place-below", "rom=10,efffff:00"), ("place-at-end", "rom=10,f00010:00"),
+            ("bytes-past-end", "rom=10,f0000f:0000"), ("byte-letter", "rom=10,f00000:0g"),
+            ("half-byte", "rom=10,f00000:000"), ("no-bytes", "rom=10,f00000:"), ("no-place", "rom=10,:00"),
+            ("no-colon", "rom=10,f00000"), ("two-colons", "rom=10,f00000:00:00"), ("comma-at-end", "rom=10,"),
+            ("two-commas", "rom=10,,f00000:00"), ("hyphen", "rom=10,-")):
+        yield case.but(f"rom-{name}", last=[case.timed, whole, last])
     yield case.but("undo-clocks-letter", undo=["0", "-", "-", f"{MARK:x}"], last=["clocks=x"])
 
 
@@ -308,6 +401,7 @@ def wrong_lines(cases):
     yield from sign_lines(cases)
     yield from clocks_lines(cases)
     yield from window_lines(cases)
+    yield from rom_lines(cases)
     yield from undo_lines(move)
     for line in no_cases(move):
         yield NO_CASE, line

@@ -1,18 +1,20 @@
 -- NumberLaws.antt - the laws that the functions of this crate cite: a refusal given or passed over, the slots of a reset, undo's answer.
--- refuse, pass, refuse-not, pass-not, refuse-by, pass-by; first-refuses, first-passes; state-fits-is; no-room-dropping, no-room-keeping; reset-slots-is; undo-answer-done, undo-answer-refused.
+-- refuse, pass, refuse-not, pass-not, refuse-by, pass-by; first-refuses, first-passes; state-fits-is; end-of-memory, end-of-rom;
+-- window-fits-is; no-room-dropping, no-room-keeping; reset-slots-is; undo-answer-done, undo-answer-refused.
 -- Uses: bits, bus, bank, record, undo, exception, calls.
-use Prim.Native.Nat.{ℕ, _-_, _<_, _^_}
+use Prim.Native.Nat.{ℕ, _+_, _-_, _<_, _^_}
 use native.Mathlib.Omega.{arith}
 use mathlib.Core.Path.{_≡_, sym, ap, _∙_}
 use mathlib.Core.Bool.{Bool, true, false, _&&_, not}
 use mathlib.Core.List.{List, [], _∷_}
 use lib.ListN.{length}
-use lib.Dec.{ltb, leb}
+use lib.Dec.{ltb, leb, eqb}
+use Rattle.codes.specs.Codes.{RomStart}
 use Rattle.bits.specs.Bits.{pick}
-use Rattle.bus.specs.Bus.{Board}
+use Rattle.bus.specs.declared.Window.{Window}
 use Rattle.bus.specs.declared.Flow.{Flow}
 use Rattle.bus.specs.declared.Fetched.{Fetched}
-use Rattle.bus.specs.Bus.{all-of, read-long}
+use Rattle.bus.specs.Bus.{Board, board-of, all-of, read-long}
 use Rattle.bank.specs.Bank.{long, sr-of, mode-of}
 use Rattle.exception.specs.Exceptions.{fresh}
 use Rattle.record.specs.Limits.{longest-record, valid-status}
@@ -20,7 +22,7 @@ use Rattle.undo.specs.declared.Answer.{Answer}
 use Rattle.undo.specs.declared.Answer.the-variants.{Done, Refused}
 use Rattle.calls.specs.declared.Manner.{Manner}
 use Rattle.calls.specs.declared.Manner.the-variants.{Dropping, Keeping}
-use Rattle.calls.specs.Calls.{state-fits, first-tests, reset-slots, no-room, undo-answer}
+use Rattle.calls.specs.Calls.{state-fits, window-end, window-fits, first-tests, reset-slots, no-room, undo-answer}
 use Rattle.calls.proofs.RefusalLaws.{first-passed, first-stopped}
 
 -- a refusal is given, or passed over, by its test or by the contrary of its test
@@ -56,6 +58,18 @@ module _ (board : Board) (s m : List ℕ) (last k r : ℕ) (d : k ≡ first-test
 
 pub state-fits-is : (s : List ℕ) (b : Bool) → b ≡ valid-status (sr-of s) → (b && leb (mode-of s) 2) ≡ state-fits s
 state-fits-is s b e = cc
+
+-- where a window's end may be
+module _ (rom m : List ℕ) where
+  pub end-of-memory : eqb (length rom) 0 ≡ true → length m ≡ window-end rom m
+  end-of-memory t = cc
+
+  pub end-of-rom : eqb (length rom) 0 ≡ false → RomStart + length rom ≡ window-end rom m
+  end-of-rom t = cc
+
+pub window-fits-is : (win : Window) (rom m : List ℕ) (e : ℕ) → e ≡ window-end rom m
+    → (leb (win .lo) (win .hi) && leb (win .hi) e) ≡ window-fits (board-of win rom) m
+window-fits-is win rom m e d = cc
 
 -- no room can be had
 module _ (w : Manner) (j : List ℕ) (mark : ℕ) where

@@ -2,7 +2,6 @@
 // Means: specs/Calls.antt of the crate calls.  Laws: proofs/NumberLaws.antt.
 // Uses: codes, bus, record, undo, exception, calls.  Source: [01 Calls and what they give back], [01 The journal], [K5], [K7], [K10].
 ghost use mathlib.Core.Path.{_≡_};
-ghost use mathlib.Core.Bool.{true};
 ghost use Prim.Native.Nat.{_≤_};
 ghost use lib.ListN.{length};
 ghost use Rattle.bus.specs.Bus.{board-of};
@@ -42,7 +41,6 @@ fn rom_fits(rom: &[u8], memory: &[u8]) -> bool
 
 // Where what a window can show ends: where memory does, or, where there is one, the ROM.
 fn window_end(memory: &[u8], rom: &[u8]) -> usize
-    requires { ⌜ rom-fits (now rom) (now memory) ≡ true ⌝ }
     ensures { λ r. ⌜ r ≡ window-end (now (rom .entry)) (now (memory .entry)) ⌝ }
 {
     let none = rom.len() == 0;
@@ -54,7 +52,6 @@ fn window_end(memory: &[u8], rom: &[u8]) -> usize
 
 // Whether a window is one that no call refuses.
 fn window_fits(win: Window, memory: &[u8], rom: &[u8]) -> bool
-    requires { ⌜ rom-fits (now rom) (now memory) ≡ true ⌝ }
     ensures { λ r. ⌜ r ≡ window-fits (board-of win (now (rom .entry))) (now (memory .entry)) ⌝ }
 {
     let end = window_end(memory, rom);

@@ -28,6 +28,8 @@ pub const DROP: u32 = 7;
 
 pub const SINGLE: u32 = 8;
 
+pub const ROM: u32 = 9;
+
 pub const NO_COUNT: u64 = 1000000000000;
 
 // What the arguments asked so far: the bytes that are lent, and the steps to run now, or NO_COUNT.
@@ -35,6 +37,7 @@ pub struct Asked {
     pub next: u32,
     pub loaded: bool,
     pub memory: usize,
+    pub rom: usize,
     pub journal: usize,
     pub way: u32,
     pub count: u64,
@@ -45,6 +48,7 @@ pub fn nothing() -> Asked {
         next: ANY,
         loaded: false,
         memory: 65536,
+        rom: 0,
         journal: 1048576,
         way: HASHED,
         count: NO_COUNT,
@@ -68,6 +72,9 @@ pub fn word_of(text: &[u8]) -> u32 {
     }
     if is_word(text, b"memory") {
         return MEMORY;
+    }
+    if is_word(text, b"rom") {
+        return ROM;
     }
     if is_word(text, b"journal") {
         return JOURNAL;
@@ -126,6 +133,7 @@ fn most_memory() -> u64 {
 fn fits(next: u32, n: u64) -> bool {
     match next {
         MEMORY => 1024 <= n && n <= most_memory() && n % 2 == 0,
+        ROM => n <= 1048576 && n % 2 == 0,
         JOURNAL => 536 <= n && n <= 1048576,
         _ => n < NO_COUNT,
     }
@@ -154,6 +162,7 @@ pub fn with_number(a: Asked, next: u32, n: u64) -> Asked {
     let mut q = a;
     match next {
         MEMORY => q.memory = n as usize,
+        ROM => q.rom = n as usize,
         JOURNAL => q.journal = n as usize,
         _ => q.count = n,
     }

@@ -8,9 +8,10 @@
 // themselves, a line for each start of the journal. `dropping COUNT` runs the steps in the manner that drops the oldest
 // records, and `singly COUNT` takes them so one by one: both tell the mark, the hash of the whole journal, the bytes
 // moved and the records dropped too. The image is standard input, or the file of an `image FILE` before the counts;
-// `memory BYTES` and `journal BYTES` before them say how much is lent: else 65,536 bytes, and 1,048,576. A memory above
-// 65,536 bytes needs a stack of 64 MiB, as `./run` gives it. An argument that is none of these, or a length that cannot
-// be lent, is told on standard error and passed over.
+// `memory BYTES`, `rom BYTES` and `journal BYTES` before them say how much is lent: else 65,536 bytes, none, and
+// 1,048,576. The ROM is all 0; its length is a number that no compiler knows, so that what a step pays for it is counted.
+// A memory above 65,536 bytes needs a stack of 64 MiB, as `./run` gives it. An argument that is none of these, or a length
+// that cannot be lent, is told on standard error and passed over.
 mod asking;
 mod running;
 
@@ -86,13 +87,13 @@ fn write_dropped(p: Progress, memory: &[u8], journal: &[u8]) {
     io::write_all(STDOUT_FILENO, b" ");
 }
 
-// Runs what is asked, on the memory and the journal that are lent.
-fn run_asked(a: Asked, memory: &mut [u8], journal: &mut [u8]) {
+// Runs what is asked, on the memory, the ROM and the journal that are lent.
+fn run_asked(a: Asked, memory: &mut [u8], rom: &[u8], journal: &mut [u8]) {
     let mut slots = [0u32; SLOTS];
-    let r = machine::reset(&mut slots, memory);
+    let r = machine::reset(&mut slots, memory, rom);
     let win = Window { lo: r.lo, hi: r.hi };
     let p = running::start(a.count);
-    let q = running::run_all(p, &mut slots, win, memory, journal, a.way);
+    let q = running::run_all(p, &mut slots, win, memory, rom, journal, a.way);
     if a.way == HASHED {
         write_progress(q, memory);
     }
@@ -104,17 +105,21 @@ fn run_asked(a: Asked, memory: &mut [u8], journal: &mut [u8]) {
     write_slots(&slots);
 }
 
-// Lends as much of both as is asked.
-fn run_lent(a: Asked, memory: &mut [u8], journal: &mut [u8]) {
+// Lends as much of each as is asked.
+fn run_lent(a: Asked, memory: &mut [u8], rom: &[u8], journal: &mut [u8]) {
     let m = a.memory;
+    let r = a.rom;
     let j = a.journal;
     if memory.len() < m {
+        return;
+    }
+    if rom.len() < r {
         return;
     }
     if journal.len() < j {
         return;
     }
-    run_asked(a, &mut memory[0..m], &mut journal[0..j]);
+    run_asked(a, &mut memory[0..m], &rom[0..r], &mut journal[0..j]);
 }
 
 fn copy(image: &[u8; 65536], memory: &mut [u8; 16777216]) {
@@ -123,25 +128,37 @@ fn copy(image: &[u8; 65536], memory: &mut [u8; 16777216]) {
     }
 }
 
-fn lend_small(a: Asked, memory: &mut [u8; 65536], journal: &mut [u8; 1048576]) {
-    run_lent(a, memory, journal);
+fn lend_small(
+    a: Asked,
+    memory: &mut [u8; 65536],
+    rom: &[u8; 1048576],
+    journal: &mut [u8; 1048576],
+) {
+    run_lent(a, memory, rom, journal);
 }
 
-fn lend_large(a: Asked, memory: &mut [u8; 16777216], journal: &mut [u8; 1048576]) {
-    run_lent(a, memory, journal);
+fn lend_large(
+    a: Asked,
+    memory: &mut [u8; 16777216],
+    rom: &[u8; 1048576],
+    journal: &mut [u8; 1048576],
+) {
+    run_lent(a, memory, rom, journal);
 }
 
 fn run_small(a: Asked, image: &[u8; 65536]) {
     let mut memory = *image;
+    let rom = [0u8; 1048576];
     let mut journal = [0u8; 1048576];
-    lend_small(a, &mut memory, &mut journal);
+    lend_small(a, &mut memory, &rom, &mut journal);
 }
 
 fn run_large(a: Asked, image: &[u8; 65536]) {
     let mut memory = [0u8; 16777216];
+    let rom = [0u8; 1048576];
     let mut journal = [0u8; 1048576];
     copy(image, &mut memory);
-    lend_large(a, &mut memory, &mut journal);
+    lend_large(a, &mut memory, &rom, &mut journal);
 }
 
 // What an argument asks.

@@ -118,9 +118,10 @@ fn run_part(
     slots: &mut [u32; SLOTS],
     win: Window,
     memory: &mut [u8],
+    rom: &[u8],
     journal: &mut [u8],
 ) -> Part {
-    let answer = keeping::run_keeping(slots, win, memory, budget(left), STOP, journal, 0);
+    let answer = keeping::run_keeping(slots, win, memory, rom, budget(left), STOP, journal, 0);
     Part {
         steps: answer.steps as u64,
         mark: answer.mark,
@@ -149,10 +150,11 @@ fn undo_once(
     slots: &mut [u32; SLOTS],
     win: Window,
     memory: &mut [u8],
+    rom: &[u8],
     journal: &[u8],
     mark: usize,
 ) -> usize {
-    let answer = machine::undo(slots, win, memory, journal, mark);
+    let answer = machine::undo(slots, win, memory, rom, journal, mark);
     if answer.number != 0 {
         return 0;
     }
@@ -160,11 +162,18 @@ fn undo_once(
 }
 
 // Undoes all that the journal holds.
-fn undo_all(slots: &mut [u32; SLOTS], win: Window, memory: &mut [u8], journal: &[u8], mark: usize) {
+fn undo_all(
+    slots: &mut [u32; SLOTS],
+    win: Window,
+    memory: &mut [u8],
+    rom: &[u8],
+    journal: &[u8],
+    mark: usize,
+) {
     let mut at = mark;
     let mut turns = u64::MAX;
     while turns > 0 && at > 0 {
-        at = undo_once(slots, win, memory, journal, at);
+        at = undo_once(slots, win, memory, rom, journal, at);
         turns -= 1;
     }
 }
@@ -175,14 +184,15 @@ fn run_undone(
     slots: &mut [u32; SLOTS],
     win: Window,
     memory: &mut [u8],
+    rom: &[u8],
     journal: &mut [u8],
     way: u32,
 ) -> u64 {
     if way != UNDONE {
         return 0;
     }
-    let part = run_part(p.left, slots, win, memory, journal);
-    undo_all(slots, win, memory, journal, part.mark);
+    let part = run_part(p.left, slots, win, memory, rom, journal);
+    undo_all(slots, win, memory, rom, journal, part.mark);
     part.clocks
 }
 
@@ -191,11 +201,12 @@ fn run_kept(
     slots: &mut [u32; SLOTS],
     win: Window,
     memory: &mut [u8],
+    rom: &[u8],
     journal: &mut [u8],
     way: u32,
 ) -> Progress {
-    let undone = run_undone(p, slots, win, memory, journal, way);
-    let part = run_part(p.left, slots, win, memory, journal);
+    let undone = run_undone(p, slots, win, memory, rom, journal, way);
+    let part = run_part(p.left, slots, win, memory, rom, journal);
     let mut next = after(p, part);
     next.clocks = std::num::wrapping_add_u64(next.clocks, undone);
     if way == RECORDS {
@@ -221,9 +232,19 @@ fn run_dropping(
     slots: &mut [u32; SLOTS],
     win: Window,
     memory: &mut [u8],
+    rom: &[u8],
     journal: &mut [u8],
 ) -> Progress {
-    let answer = machine::run(slots, win, memory, budget(p.left), STOP, journal, p.mark);
+    let answer = machine::run(
+        slots,
+        win,
+        memory,
+        rom,
+        budget(p.left),
+        STOP,
+        journal,
+        p.mark,
+    );
     let part = Part {
         steps: answer.steps as u64,
         mark: answer.mark,
@@ -245,9 +266,10 @@ fn step_dropping(
     slots: &mut [u32; SLOTS],
     win: Window,
     memory: &mut [u8],
+    rom: &[u8],
     journal: &mut [u8],
 ) -> Progress {
-    let answer = machine::step(slots, win, memory, 0, 0, journal, p.mark);
+    let answer = machine::step(slots, win, memory, rom, 0, 0, journal, p.mark);
     let part = Part {
         steps: accepted(answer.number),
         mark: answer.mark,
@@ -261,13 +283,14 @@ fn run_once(
     slots: &mut [u32; SLOTS],
     win: Window,
     memory: &mut [u8],
+    rom: &[u8],
     journal: &mut [u8],
     way: u32,
 ) -> Progress {
     match way {
-        DROPPING => run_dropping(p, slots, win, memory, journal),
-        SINGLY => step_dropping(p, slots, win, memory, journal),
-        _ => run_kept(p, slots, win, memory, journal, way),
+        DROPPING => run_dropping(p, slots, win, memory, rom, journal),
+        SINGLY => step_dropping(p, slots, win, memory, rom, journal),
+        _ => run_kept(p, slots, win, memory, rom, journal, way),
     }
 }
 
@@ -277,13 +300,14 @@ pub fn run_all(
     slots: &mut [u32; SLOTS],
     win: Window,
     memory: &mut [u8],
+    rom: &[u8],
     journal: &mut [u8],
     way: u32,
 ) -> Progress {
     let mut now = p;
     let mut turns = u64::MAX;
     while turns > 0 && now.left > 0 {
-        now = run_once(now, slots, win, memory, journal, way);
+        now = run_once(now, slots, win, memory, rom, journal, way);
         turns -= 1;
     }
     now

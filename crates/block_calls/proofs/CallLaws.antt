@@ -24,13 +24,13 @@ module _ {A : Type 0} (b m j : List ℕ) (refusal : ℕ → A) (s₁ m₁ j₁ :
   on-block-held e = rw (eq-eqb (length b) block-length e)
 
 -- ---- reset
-module _ (b m : List ℕ) where
-  pub ibz-reset-nine : (length b ≡ block-length → ⊥) → IbzResetPromise b m b (record { number = no-block; lo = 0; hi = 0 })
+module _ (b m rom : List ℕ) where
+  pub ibz-reset-nine : (length b ≡ block-length → ⊥) → IbzResetPromise b m rom b (record { number = no-block; lo = 0; hi = 0 })
   unfolding ibz-reset
   ibz-reset-nine h = let y = ne-eqb (length b) block-length h in record { block = rw y; answer = rw y }
 
-  pub ibz-reset-held : length b ≡ block-length → (s : List ℕ) (a : ResetAnswer) → ResetPromise m s a
-      → (b₁ : List ℕ) → b₁ ≡ block-of s → IbzResetPromise b m b₁ a
+  pub ibz-reset-held : length b ≡ block-length → (s : List ℕ) (a : ResetAnswer) → ResetPromise m rom s a
+      → (b₁ : List ℕ) → b₁ ≡ block-of s → IbzResetPromise b m rom b₁ a
   unfolding ibz-reset
   ibz-reset-held e s a p b₁ q =
       let y = eq-eqb (length b) block-length e in record { block = rw y (q ∙ ap block-of (p .slots)); answer = rw y (p .answer) }

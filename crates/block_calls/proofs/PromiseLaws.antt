@@ -12,8 +12,8 @@ use Rattle.calls.specs.declared.RunAnswer.{RunAnswer}
 use Rattle.calls.specs.declared.UndoAnswer.{UndoAnswer}
 use Rattle.block_calls.specs.Promises.{IbzResetPromise, IbzStepPromise, IbzRunPromise, IbzUndoPromise}
 
-pub ibz-reset-unique : (b m b₁ b₂ : List ℕ) (a₁ a₂ : ResetAnswer) → IbzResetPromise b m b₁ a₁ → IbzResetPromise b m b₂ a₂ → (b₁ ≡ b₂) × (a₁ ≡ a₂)
-ibz-reset-unique b m b₁ b₂ a₁ a₂ p q = (cc, cc)
+pub ibz-reset-unique : (b m rom b₁ b₂ : List ℕ) (a₁ a₂ : ResetAnswer) → IbzResetPromise b m rom b₁ a₁ → IbzResetPromise b m rom b₂ a₂ → (b₁ ≡ b₂) × (a₁ ≡ a₂)
+ibz-reset-unique b m rom b₁ b₂ a₁ a₂ p q = (cc, cc)
 
 pub ibz-step-unique : (w : Manner) (b : List ℕ) (board : Board) (m : List ℕ) (level vector : ℕ) (j : List ℕ) (mark : ℕ)
     (b₁ m₁ j₁ : List ℕ) (a₁ : StepAnswer) (b₂ m₂ j₂ : List ℕ) (a₂ : StepAnswer)

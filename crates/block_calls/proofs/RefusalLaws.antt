@@ -4,7 +4,7 @@
 --   (done).
 -- * ibz-step-refused, ibz-run-refused, ibz-undo-refused: a call whose number is not 0, 9 or another, gives back block, memory, journal and mark
 --   as given, byte for byte, and 0 for the rest.
--- * ibz-reset-refused: a reset refused by 1 leaves the block of the fixed state; ibz-reset-at-nine: one refused by 9 leaves the block.
+-- * ibz-reset-refused: a reset refused by 1 or 12 leaves the block of the fixed state; ibz-reset-at-nine: one refused by 9 leaves the block.
 -- Source: [K1], [K5], [K7], [01 Calls and what they give back].
 use Prim.Native.Nat.{ℕ}
 use mathlib.Core.Path.{_≡_, refl, sym, ap, subst, _∙_}
@@ -116,18 +116,18 @@ module _ {A : Type 0} (number : A → ℕ) (refusal : ℕ → A) (is : (n : ℕ)
           λ i. record { b = same i; m = s .memory i; j = s .journal i; a = s .answer i }
 
 -- ---- reset
-module _ (b m : List ℕ) where
-  pub ibz-reset-verdict : IbzVerdict b (ibz-reset-table b m) (ibz-reset b m .a .number)
+module _ (b m rom : List ℕ) where
+  pub ibz-reset-verdict : IbzVerdict b (ibz-reset-table b m rom) (ibz-reset b m rom .a .number)
   unfolding ibz-reset reset-answer
-  ibz-reset-verdict = ibz-verdict b (reset-table m) (reset-number m) (reset-verdict m) refl (λ (c : IbzReset). c .a .number) _ _ refl refl
+  ibz-reset-verdict = ibz-verdict b (reset-table m rom) (reset-number m rom) (reset-verdict m rom) refl (λ (c : IbzReset). c .a .number) _ _ refl refl
 
-  pub ibz-reset-at-nine : (length b ≡ block-length → ⊥) → ibz-reset b m ≡ record { b = b; a = record { number = no-block; lo = 0; hi = 0 } }
+  pub ibz-reset-at-nine : (length b ≡ block-length → ⊥) → ibz-reset b m rom ≡ record { b = b; a = record { number = no-block; lo = 0; hi = 0 } }
   unfolding ibz-reset
   ibz-reset-at-nine h = rw (ne-eqb (length b) block-length h)
 
-  pub ibz-reset-refused : length b ≡ block-length → (reset-number m ≡ 0 → ⊥) → ibz-reset b m .b ≡ block-of refused-slots
+  pub ibz-reset-refused : length b ≡ block-length → (reset-number m rom ≡ 0 → ⊥) → ibz-reset b m rom .b ≡ block-of refused-slots
   unfolding ibz-reset
-  ibz-reset-refused e h = rw (eq-eqb (length b) block-length e) (ap block-of (reset-refused m h))
+  ibz-reset-refused e h = rw (eq-eqb (length b) block-length e) (ap block-of (reset-refused m rom h))
 
 -- ---- step
 module _ (w : Manner) (b : List ℕ) (board : Board) (m : List ℕ) (level vector : ℕ) (j : List ℕ) (mark : ℕ) where

@@ -8,6 +8,7 @@ use mathlib.Core.Path.{_≡_, ap, subst, _∙_}
 use mathlib.Core.List.{List}
 use lib.ListN.{length}
 use borrow.Author.Tests.{eq-eqb, ne-eqb}
+use Rattle.bus.specs.declared.Window.{Window}
 use Rattle.bus.specs.Bus.{Board}
 use Rattle.tries.specs.declared.TryAnswer.{TryAnswer}
 use Rattle.tries.specs.declared.BackAnswer.{BackAnswer}
@@ -42,14 +43,14 @@ module _ (b : List ℕ) (board : Board) (m : List ℕ) (count : ℕ) (j : List �
   ibz-try-unique b₁ m₁ j₁ a₁ b₂ m₂ j₂ a₂ p q = (cc, cc, cc, cc)
 
 -- ---- taking back
-module _ (b : List ℕ) (board : Board) (m j : List ℕ) (mark steps : ℕ) (old : Board) where
-  pub ibz-back-nine : (length b ≡ block-length → ⊥) → IbzBackPromise b board m j mark steps old b m (back-refusal board mark no-block)
+module _ (b : List ℕ) (board : Board) (m j : List ℕ) (mark steps : ℕ) (old : Window) where
+  pub ibz-back-nine : (length b ≡ block-length → ⊥) → IbzBackPromise b board m j mark steps old b m (back-refusal (board .window) mark no-block)
   unfolding ibz-back
   ibz-back-nine h = let y = ne-eqb (length b) block-length h in record { block = rw y; memory = rw y; answer = rw y }
 
   -- at 9 nothing is altered, nothing undone, and the window stays
   pub ibz-back-at-nine : (length b ≡ block-length → ⊥)
-      → ibz-back b board m j mark steps old ≡ record { b = b; m = m; j = j; a = record { number = 9; undone = 0; mark = mark; lo = board .lo; hi = board .hi } }
+      → ibz-back b board m j mark steps old ≡ record { b = b; m = m; j = j; a = record { number = 9; undone = 0; mark = mark; lo = board .window .lo; hi = board .window .hi } }
   unfolding ibz-back
   ibz-back-at-nine h = rw (ne-eqb (length b) block-length h)
 

@@ -6,7 +6,7 @@ use mathlib.Core.Path.{_≡_, sym, ap, _∙_}
 use mathlib.Core.List.{List}
 use lib.ListN.{length}
 use Rattle.record.specs.Limits.{slot-limit}
-use Rattle.bus.specs.Bus.{Board}
+use Rattle.bus.specs.declared.Window.{Window}
 use Rattle.tries.specs.declared.TryAnswer.{TryAnswer}
 use Rattle.tries.specs.declared.BackAnswer.{BackAnswer}
 use Rattle.tries.specs.Tries.{TryCall, BackCall, back-call}
@@ -24,7 +24,7 @@ use Rattle.block_calls.proofs.CallLaws.{on-block-held}
 use Rattle.block_calls.proofs.GoingBack.{Lends, lent-in, held}
 use Rattle.block_tried.specs.BlockTried.{ibz-trying, ibz-backing, ibz-taken-back}
 
-module _ (old : Board) (count : ℕ) (x : Box) (l : Lends x) where
+module _ (old : Window) (count : ℕ) (x : Box) (l : Lends x) where
   abbrev y : Machine
   y = machine-in x
 
@@ -54,7 +54,7 @@ module _ (old : Board) (count : ℕ) (x : Box) (l : Lends x) where
   back-held : ibz-back (block-of (c .s)) (x .board) (c .m) (c .j) (c .a .mark) (c .a .steps) old
       ≡ (let d = backed (slots-in (block-of (c .s))) in held (d .s) (d .m) (c .j) (d .a))
   unfolding ibz-back
-  back-held = on-block-held (block-of (c .s)) (c .m) (c .j) (back-refusal (x .board) (c .a .mark)) _ _ _ _ fits-again
+  back-held = on-block-held (block-of (c .s)) (c .m) (c .j) (back-refusal (x .board .window) (c .a .mark)) _ _ _ _ fits-again
 
   same-block : block-of (slots-in (x .block)) ≡ x .block
   same-block = block-of-slots-in (x .block) (l .fits) (l .block-bytes)

@@ -1,8 +1,8 @@
 -- ActLaws.antt - the machine after one call: an accepted step is one-step and its record at the mark; a refused call changes nothing.
 -- * act-step: after an accepted step, slots, memory and mark are those of one-more, and the journal has the step's record written at the mark;
 --   mark and journal are those that the room leaves (room-at, seen-at), which in the keeping manner are the ones given.
--- * step-valid, step-window, step-room: an accepted step starts in a valid state with a window that fits, and its record fits; valid-after,
---   lent-after, window-after: it ends in such a state.
+-- * step-valid, step-board, step-room: an accepted step starts in a valid state with a window that fits, and its record fits; valid-after,
+--   lent-after, board-after: it ends in such a state.
 -- * act-step-refused, act-run-refused, act-undo-refused: a refused call leaves the machine as it was.
 -- * record-some: a record is never empty.
 -- Source: [01 Calls and what they give back], [01 The journal], [K5], [K7].
@@ -19,10 +19,10 @@ use Rattle.record.specs.Change.{Change, changes-bytes, record-of, diffs}
 use Rattle.step.specs.Steps.{one-step}
 use Rattle.oldest.specs.Room.{RoomCall}
 use Rattle.calls.specs.declared.Manner.{Manner}
-use Rattle.calls.specs.Calls.{StepCall, RunCall, UndoCall, window-fits, room-for, step-number, step-taken, step-with-room}
+use Rattle.calls.specs.Calls.{StepCall, RunCall, UndoCall, room-for, step-number, step-taken, step-with-room}
 use Rattle.calls.specs.History.{Machine, Request, step-of, run-of, undo-once, stepping, running-on, undoing, act, Seen, record-after}
 use Rattle.calls.specs.History.{one-more}
-use Rattle.calls.proofs.ValidLaws.{Lent, Valid, lent-when-valid, valid-when-accepted, valid-after-step, window-after-step, record-room, small-enough}
+use Rattle.calls.proofs.ValidLaws.{BoardFits, Lent, Valid, lent-when-valid, valid-when-accepted, valid-after-step, board-after-step, record-room, small-enough}
 use Rattle.calls.proofs.JournalLaws.{JournalLent, room-length, room-inside, room-lent, lent-written}
 use Rattle.calls.proofs.RefusalLaws.{step-call-number, step-accepted, step-refused, run-refused, undo-refused, step-inv}
 
@@ -43,9 +43,9 @@ module _ (r : Request) (a : Seen) (v : Valid (a .slots) (a .memory)) where
   pub lent-after : Lent (one-more r a .slots) (one-more r a .memory)
   lent-after = lent-when-valid (one-more r a .slots) (one-more r a .memory) valid-after
 
-  pub window-after : window-fits (a .board) (a .memory) ≡ true → window-fits (one-more r a .board) (one-more r a .memory) ≡ true
+  pub board-after : BoardFits (a .board) (a .memory) → BoardFits (one-more r a .board) (one-more r a .memory)
   unfolding one-more
-  window-after = window-after-step (a .board) (a .slots) (a .memory) (r .level) (r .vector) v
+  board-after = board-after-step (a .board) (a .slots) (a .memory) (r .level) (r .vector) v
 
   pub record-after-length : length (record-after r a) ≤ longest-record
   unfolding record-after
@@ -85,8 +85,8 @@ module _ (w : Manner) where
       let i = step-inv w (x .board) (x .slots) (x .memory) level (x .journal) (x .mark) (step-number-zero level vector x e) in
       valid-when-accepted (x .slots) (x .memory) l (i .0) (i .1)
 
-  pub step-window : (level vector : ℕ) (x : Machine) → stepping w level vector x .a .number ≡ 0 → window-fits (x .board) (x .memory) ≡ true
-  step-window level vector x e = step-inv w (x .board) (x .slots) (x .memory) level (x .journal) (x .mark) (step-number-zero level vector x e) .7
+  pub step-board : (level vector : ℕ) (x : Machine) → stepping w level vector x .a .number ≡ 0 → BoardFits (x .board) (x .memory)
+  step-board level vector x e = step-inv w (x .board) (x .slots) (x .memory) level (x .journal) (x .mark) (step-number-zero level vector x e) .7
 
   module _ (r : Request) (x : Machine) (l : Lent (x .slots) (x .memory)) (jl : JournalLent w (x .journal)) (e : stepping w (r .level) (r .vector) x .a .number ≡ 0) where
     valid-here : Valid (x .slots) (x .memory)

@@ -18,14 +18,14 @@ use Rattle.undo.specs.Undo.{undo-of}
 use Rattle.undo.specs.declared.Answer.the-variants.{Done}
 use Rattle.undo.proofs.UndoLaws.{undo-of-record, undo-by-back}
 use Rattle.calls.specs.declared.Manner.{Manner}
-use Rattle.calls.specs.Calls.{RunCall, window-fits}
+use Rattle.calls.specs.Calls.{RunCall}
 use Rattle.calls.specs.History.{Machine, Request, Call, step-of, run-of, undo-once, stepping, running-on, undoing, act, Calls, machine-calls}
 use Rattle.calls.specs.History.{after, accepted, undone, NeverAhead, plain-step, left-by, standing, Seen, record-after, one-more}
 use Rattle.calls.specs.Kept.{EachCall}
-use Rattle.calls.proofs.ValidLaws.{Lent, Valid, kept-by, state-fits-when, small-enough}
+use Rattle.calls.proofs.ValidLaws.{BoardFits, Lent, Valid, kept-by, state-fits-when, small-enough}
 use Rattle.calls.proofs.JournalLaws.{JournalLent}
 use Rattle.calls.proofs.RefusalLaws.{run-refused, undo-accepted, undo-number-when}
-use Rattle.calls.proofs.ActLaws.{machine-at, act-step-refused, act-run-refused, act-undo-refused, valid-after, window-after, record-after-some}
+use Rattle.calls.proofs.ActLaws.{machine-at, act-step-refused, act-run-refused, act-undo-refused, valid-after, board-after, record-after-some}
 use Rattle.calls.proofs.RunLaws.{one, plain, AsSteps, run-as-steps}
 
 pub mark-after : (r : Request) (a : Seen) → one-more r a .mark ≡ a .mark + length (record-after r a)
@@ -33,7 +33,7 @@ unfolding one-more
 mark-after r a = refl
 
 -- ---- the undo of one step whose record ends the journal
-module _ (r : Request) (a : Seen) (v : Valid (a .slots) (a .memory)) (o : window-fits (a .board) (a .memory) ≡ true) (j : List ℕ)
+module _ (r : Request) (a : Seen) (v : Valid (a .slots) (a .memory)) (o : BoardFits (a .board) (a .memory)) (j : List ℕ)
     (room : one-more r a .mark ≤ length j) (last : back j (one-more r a .mark) ≡ reverse (record-after r a) ++ back j (a .mark)) where
   undone-to : undo-of (one-more r a .slots) (one-more r a .memory) j (one-more r a .mark)
       ≡ record { slots = a .slots; memory = a .memory; answer = Done (a .mark) }
@@ -55,7 +55,7 @@ module _ (r : Request) (a : Seen) (v : Valid (a .slots) (a .memory)) (o : window
       let fits = state-fits-when (one-more r a .slots) (one-more r a .memory) w in
       let some : one-more r a .mark ≡ 0 → ⊥ = λ e. omega (arith, mark-after r a, record-after-some r a) in
       undo-accepted (one-more r a .board) (one-more r a .slots) (one-more r a .memory) j (one-more r a .mark) (a .mark) (a .slots) (a .memory)
-      (undo-number-when (one-more r a .board) (one-more r a .slots) (one-more r a .memory) j (one-more r a .mark) (w .fits) fits (window-after r a v o) room some)
+      (undo-number-when (one-more r a .board) (one-more r a .slots) (one-more r a .memory) j (one-more r a .mark) (w .fits) fits (board-after r a v o) room some)
       undone-to
 
 -- ---- any call at all

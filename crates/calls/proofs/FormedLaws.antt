@@ -20,12 +20,12 @@ use Rattle.undo.specs.declared.Answer.the-variants.{Done}
 use Rattle.undo.proofs.ReadLaws.{length-back}
 use Rattle.undo.proofs.UndoLaws.{undo-when-found}
 use Rattle.undo.proofs.FormedLaws.{formed-when-found, found-when-formed, start-of-formed, none-when-unformed}
-use Rattle.calls.specs.Calls.{memory-fits, state-fits, window-fits, undo-number, undo-call}
-use Rattle.calls.specs.Refusals.{Line, this, later, NoneApplies, BadMemory, BadState, BadWindow, first-lines, mark-line}
+use Rattle.calls.specs.Calls.{memory-fits, rom-fits, state-fits, window-fits, undo-number, undo-call}
+use Rattle.calls.specs.Refusals.{Line, this, later, NoneApplies, BadMemory, BadRom, BadState, BadWindow, first-lines, mark-line}
 use Rattle.calls.proofs.ValidLaws.{fits-inv}
-use Rattle.calls.proofs.RefusalLaws.{not-this, from-later, bad-memory-when, bad-state-when, bad-window-when, undo-verdict, undo-accepted, undo-number-when}
+use Rattle.calls.proofs.RefusalLaws.{not-this, from-later, bad-memory-when, bad-rom-when, bad-state-when, bad-window-when, undo-verdict, undo-accepted, undo-number-when}
 
--- the lines of undo's table before the last: 1, 2, 10, 4 and 7
+-- the lines of undo's table before the last: 1, 12, 2, 10, 4 and 7
 abbrev pub undo-table-before-8 : Board → List ℕ → List ℕ → List ℕ → ℕ → List Line
 undo-table-before-8 board s m j mark = first-lines board s m (mark-line j mark ∷ record { number = 7; applies = mark ≡ 0 } ∷ [])
 
@@ -51,9 +51,11 @@ module _ (board : Board) (s m j : List ℕ) (mark : ℕ) where
         let o₂ = others .1 in
         let o₃ = o₂ .1 in
         let o₄ = o₃ .1 in
-        let state = holds-when (BadState s) (state-fits s) (bad-state-when s) (o₂ .0) in
-        let board = holds-when (BadWindow board m) (window-fits board m) (bad-window-when board m) (o₃ .0) in
-        undo-number-when board s m j mark fits state window (omega (arith, o₄ .0)) (o₄ .1 .0)
+        let o₅ = o₄ .1 in
+        let beside = holds-when (BadRom (board .rom) m) (rom-fits (board .rom) m) (bad-rom-when (board .rom) m) (o₂ .0) in
+        let state = holds-when (BadState s) (state-fits s) (bad-state-when s) (o₃ .0) in
+        let inside = holds-when (BadWindow board m) (window-fits board m) (bad-window-when board m) (o₄ .0) in
+        undo-number-when board s m j mark fits state (beside, inside) (omega (arith, o₅ .0)) (o₅ .1 .0)
 
     -- ---- a record that is Formed is undone
     pub undo-done-when-formed : (start : ℕ) (ss bs : List Change) → Formed s m j mark start ss bs
@@ -75,13 +77,14 @@ module _ (board : Board) (s m j : List ℕ) (mark : ℕ) where
       let g₂ = from-later (λ q. omega arith) g₁ in
       let g₃ = from-later (λ q. omega arith) g₂ in
       let g₄ = from-later (λ q. omega arith) g₃ in
-      let g₇ = from-later (λ q. omega arith) g₄ in (
+      let g₅ = from-later (λ q. omega arith) g₄ in
+      let g₇ = from-later (λ q. omega arith) g₅ in (
         not-this (λ q. omega arith) g₁,
         (
           not-this (λ q. omega arith) g₂,
           (
             not-this (λ q. omega arith) g₃,
-            (not-this (λ q. omega arith) g₄, (not-this (λ q. omega arith) g₇, tt)),
+            (not-this (λ q. omega arith) g₄, (not-this (λ q. omega arith) g₅, (not-this (λ q. omega arith) g₇, tt))),
           ),
         ),
       )
@@ -91,8 +94,8 @@ module _ (board : Board) (s m j : List ℕ) (mark : ℕ) where
   undo-gives-8 b = (
     λ e. (others-when-8 e, λ w. omega (arith, e, zero-when-formed (others-when-8 e) w)),
     λ h. undo-verdict board s m j mark .exactly 8 .1
-        (later (h .0 .0) (later (h .0 .1 .0) (later (h .0 .1 .1 .0) (later (h .0 .1 .1 .1 .0) (later (h .0 .1 .1 .1 .1 .0)
-        (this (none-when-unformed s m j mark b (λ k ss bs f. h .1 (k, ss, bs, f))) refl)))))),
+        (later (h .0 .0) (later (h .0 .1 .0) (later (h .0 .1 .1 .0) (later (h .0 .1 .1 .1 .0) (later (h .0 .1 .1 .1 .1 .0) (later (h .0 .1 .1 .1 .1 .1 .0)
+        (this (none-when-unformed s m j mark b (λ k ss bs f. h .1 (k, ss, bs, f))) refl))))))),
   )
 
   some-when-found : ValidBytes j → (well-formed s m j mark ≡ none → ⊥) → SomeFormed s m j mark
@@ -106,6 +109,6 @@ module _ (board : Board) (s m j : List ℕ) (mark : ℕ) where
       → ((undo-call board s m j mark .a .number ≡ 0) ↔ (NoneApplies (undo-table-before-8 board s m j mark) × SomeFormed s m j mark))
   undo-gives-0 b = (
     λ e. let h = undo-verdict board s m j mark .done .0 e in
-        ((h .0, (h .1 .0, (h .1 .1 .0, (h .1 .1 .1 .0, (h .1 .1 .1 .1 .0, tt))))), some-when-found b (h .1 .1 .1 .1 .1 .0)),
+        ((h .0, (h .1 .0, (h .1 .1 .0, (h .1 .1 .1 .0, (h .1 .1 .1 .1 .0, (h .1 .1 .1 .1 .1 .0, tt)))))), some-when-found b (h .1 .1 .1 .1 .1 .1 .0)),
     λ h. zero-when-formed (h .0) (h .1),
   )

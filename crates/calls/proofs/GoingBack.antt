@@ -20,11 +20,11 @@ use Rattle.numbers.specs.Number.{written, back}
 use Rattle.numbers.proofs.WrittenLaws.{back-written, length-written}
 use Rattle.undo.proofs.UndoLaws.{back-below}
 use Rattle.calls.specs.declared.Manner.the-variants.{Keeping}
-use Rattle.calls.specs.Calls.{UndoCall, window-fits}
+use Rattle.calls.specs.Calls.{UndoCall}
 use Rattle.calls.specs.History.{Machine, Request, Call, step-of, undo-once, stepping, undoing, act, machine-calls, after}
 use Rattle.calls.specs.History.{NeverAhead, standing, Seen, seen, record-after, one-more, taken-alone}
-use Rattle.calls.proofs.ValidLaws.{Lent, Valid}
-use Rattle.calls.proofs.ActLaws.{machine-at, act-step, step-valid, step-window, step-room, lent-after}
+use Rattle.calls.proofs.ValidLaws.{BoardFits, Lent, Valid}
+use Rattle.calls.proofs.ActLaws.{machine-at, act-step, step-valid, step-board, step-room, lent-after}
 use Rattle.calls.proofs.BackLaws.{mark-after, undoing-to, any-calls, history-at}
 
 -- ---- a history from one start
@@ -37,7 +37,7 @@ module _ (x₀ : Machine) (lent : Lent (x₀ .slots) (x₀ .memory)) where
   Holds j [] = Unit {0}
   Holds j (r ∷ rs) =
       Valid (alone rs .slots) (alone rs .memory)
-      × (window-fits (alone rs .board) (alone rs .memory) ≡ true)
+      × (BoardFits (alone rs .board) (alone rs .memory))
       × (one-more r (alone rs) .mark ≤ length j)
       × (back j (one-more r (alone rs) .mark) ≡ reverse (record-after r (alone rs)) ++ back j (alone rs .mark))
       × Holds j rs
@@ -83,7 +83,7 @@ module _ (x₀ : Machine) (lent : Lent (x₀ .slots) (x₀ .memory)) where
           is = act-step Keeping r here ok;
           holds = (
             step-valid Keeping (r .level) (r .vector) here l ok,
-            step-window Keeping (r .level) (r .vector) here ok,
+            step-board Keeping (r .level) (r .vector) here ok,
             omega (arith, room, same-length, next),
             rw next (back-written j (a .mark) b room ∙ ap (λ (p : List ℕ). reverse b ++ p) (sym (back-below j (a .mark) b (a .mark) (omega arith) (omega arith)))),
             holds-below j w rs same-length (λ e q. back-below j (a .mark) b e q (omega arith)) h,

@@ -275,10 +275,10 @@ module _ (x₀ x : Machine) (rs : List Request) where
 module _ (w : Manner) (x : Machine) (past : length (x .journal) < x .mark) where
   act-past-end : (c : Call) → act w c x ≡ x
   act-past-end (step-of level vector) =
-      act-step-refused w level vector x (λ e. step-verdict w (x .board) (x .slots) (x .memory) level (x .journal) (x .mark) vector .done .0 e .1 .1 .1 .1 .0 past)
+      act-step-refused w level vector x (λ e. step-verdict w (x .board) (x .slots) (x .memory) level (x .journal) (x .mark) vector .done .0 e .1 .1 .1 .1 .1 .0 past)
   act-past-end (run-of budget stop) =
-      act-run-refused w budget stop x (λ e. run-verdict (x .board) (x .slots) (x .memory) budget (x .journal) (x .mark) w stop .done .0 e .1 .1 .1 .1 .0 past)
-  act-past-end undo-once = act-undo-refused w x (λ e. undo-verdict (x .board) (x .slots) (x .memory) (x .journal) (x .mark) .done .0 e .1 .1 .1 .0 past)
+      act-run-refused w budget stop x (λ e. run-verdict (x .board) (x .slots) (x .memory) budget (x .journal) (x .mark) w stop .done .0 e .1 .1 .1 .1 .1 .0 past)
+  act-past-end undo-once = act-undo-refused w x (λ e. undo-verdict (x .board) (x .slots) (x .memory) (x .journal) (x .mark) .done .0 e .1 .1 .1 .1 .0 past)
 
   pub refused-past-end : (cs : List Call) → after (machine-calls w) cs x ≡ x
   refused-past-end [] = refl

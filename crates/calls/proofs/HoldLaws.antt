@@ -27,10 +27,10 @@ use Rattle.calls.specs.History.{Machine, Request, step-of, stepping, und
 use Rattle.calls.specs.History.{Seen, seen, record-after, one-more, taken-alone}
 use Rattle.calls.specs.Kept.{records-alone, LeftOver}
 use Rattle.calls.proofs.ValidLaws.{Lent, small-enough, state-fits-when}
-use Rattle.calls.proofs.RefusalLaws.{step-inv, undo-verdict, no-bad-memory, no-bad-state, no-bad-window}
+use Rattle.calls.proofs.RefusalLaws.{step-inv, undo-verdict, no-bad-memory, no-bad-rom, no-bad-state, no-bad-window}
 use Rattle.calls.proofs.JournalLaws.{room-number}
 use Rattle.calls.proofs.ActLaws.{room-at, seen-at, act-step, step-number-zero, step-valid, step-room}
-use Rattle.calls.proofs.ActLaws.{valid-after, window-after, step-window, journal-lent-after}
+use Rattle.calls.proofs.ActLaws.{valid-after, board-after, step-board, journal-lent-after}
 use Rattle.calls.proofs.BackLaws.{undoing-to}
 use Rattle.calls.proofs.KeptLaws.{AllValid, lent-alone, memory-alone, rows-alone, records-as-rows, rows-alone-good, rows-alone-drop}
 use Rattle.calls.proofs.KeptLaws.{older, left-over-drop}
@@ -124,11 +124,13 @@ module _ (x₀ : Machine) where
       let empty : length (records (h .kept) (r ∷ rs)) ≡ 0 = ap (λ (n : ℕ). length (records n (r ∷ rs))) z in
       let at-0 : mark ≡ 0 =
       omega (arith, ap length (h .bytes), length-append (h .rest) (records (h .kept) (r ∷ rs)), length-take-le mark j (h .below)) in
+      let o = board-after r (alone rs) (h .valid .0) (h .valid .1) in
       undo-verdict (a .board) (a .slots) (a .memory) j mark .exactly 7 .1
       (later (no-bad-memory (a .memory) (v .fits))
+      (later (no-bad-rom (a .board .rom) (a .memory) (o .0))
       (later (no-bad-state (a .slots) (state-fits-when (a .slots) (a .memory) v))
-      (later (no-bad-window (a .board) (a .memory) (window-after r (alone rs) (h .valid .0) (h .valid .1)))
-      (later (λ q. omega (arith, h .below)) (this at-0 refl)))))
+      (later (no-bad-window (a .board) (a .memory) (o .1))
+      (later (λ q. omega (arith, h .below)) (this at-0 refl))))))
 
   -- ---- an accepted step
   module _ (lent : Lent (x₀ .slots) (x₀ .memory)) (octets : ValidBytes (x₀ .journal)) (inside : x₀ .mark ≤ length (x₀ .journal)) where
@@ -241,7 +243,7 @@ module _ (x₀ : Machine) where
           let number = room-number (length (here .memory)) j mark fits (h .below) Dropping (h .lent-journal) (i .4) (i .6) in
           let is = act-step Dropping r here ok in
           let next-lent = subst (λ (y : Machine). ValidBytes (y .journal)) is (journal-lent-after Dropping r here lent-here (h .lent-journal) ok) in
-          let valid : AllValid (r ∷ rs) (seen x₀) = (v, step-window Dropping (r .level) (r .vector) here ok, h .valid) in
+          let valid : AllValid (r ∷ rs) (seen x₀) = (v, step-board Dropping (r .level) (r .vector) here ok, h .valid) in
           let same-size = memory-alone rs (seen x₀) (h .valid) in
           let go =
           subst (λ (n : ℕ). make-room n j mark .a .number ≡ 0 → Next r rs valid j mark h (make-room n j mark)) (sym same-size)

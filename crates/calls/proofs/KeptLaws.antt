@@ -20,10 +20,9 @@ use Rattle.oldest.specs.Room.{Row, row-bytes, rows-bytes, rows, read-rows, rows
 use Rattle.oldest.proofs.RowLaws.{Good, AllGood, back-as-reverse, rows-bytes-append, good-append, record-puts, older-when-read, bytes-of-rows}
 use Rattle.oldest.proofs.RowLaws.{rows-read, rows-count, rows-of-bytes, good-drop}
 use Rattle.oldest.proofs.RoomLaws.{Made, there, refused, on-the-way, dropping, made-cases}
-use Rattle.calls.specs.Calls.{window-fits}
 use Rattle.calls.specs.History.{Machine, Request, Seen, record-after, one-more, taken-alone}
 use Rattle.calls.specs.Kept.{records-alone, LeftOver, all-of-it, but-the-oldest}
-use Rattle.calls.proofs.ValidLaws.{Lent, Valid, kept-by}
+use Rattle.calls.proofs.ValidLaws.{BoardFits, Lent, Valid, kept-by}
 use Rattle.calls.proofs.JournalLaws.{row-after, row-after-bytes, row-after-good}
 use Rattle.calls.proofs.ActLaws.{lent-after, record-after-some}
 use Rattle.calls.proofs.BackLaws.{mark-after}
@@ -32,7 +31,7 @@ use Rattle.calls.proofs.BackLaws.{mark-after}
 abbrev pub AllValid : List Request → Seen → Type 0
 AllValid [] a = Unit {0}
 AllValid (r ∷ rs) a =
-    Valid (taken-alone rs a .slots) (taken-alone rs a .memory) × (window-fits (taken-alone rs a .board) (taken-alone rs a .memory) ≡ true) × AllValid rs a
+    Valid (taken-alone rs a .slots) (taken-alone rs a .memory) × (BoardFits (taken-alone rs a .board) (taken-alone rs a .memory)) × AllValid rs a
 
 pub lent-alone : (rs : List Request) (a : Seen) → Lent (a .slots) (a .memory) → AllValid rs a
     → Lent (taken-alone rs a .slots) (taken-alone rs a .memory)

@@ -12,8 +12,8 @@ use Rattle.calls.specs.declared.RunAnswer.{RunAnswer}
 use Rattle.calls.specs.declared.UndoAnswer.{UndoAnswer}
 use Rattle.calls.specs.Promises.{ResetPromise, StepPromise, RunPromise, UndoPromise}
 
-pub reset-unique : (m s₁ s₂ : List ℕ) (a₁ a₂ : ResetAnswer) → ResetPromise m s₁ a₁ → ResetPromise m s₂ a₂ → (s₁ ≡ s₂) × (a₁ ≡ a₂)
-reset-unique m s₁ s₂ a₁ a₂ p q = (cc, cc)
+pub reset-unique : (m rom s₁ s₂ : List ℕ) (a₁ a₂ : ResetAnswer) → ResetPromise m rom s₁ a₁ → ResetPromise m rom s₂ a₂ → (s₁ ≡ s₂) × (a₁ ≡ a₂)
+reset-unique m rom s₁ s₂ a₁ a₂ p q = (cc, cc)
 
 pub step-unique : (w : Manner) (board : Board) (s m : List ℕ) (level vector : ℕ) (j : List ℕ) (mark : ℕ) (s₁ m₁ j₁ : List ℕ) (a₁ : StepAnswer) (s₂ m₂ j₂ : List ℕ) (a₂ : StepAnswer)
     → StepPromise w board s m level vector j mark s₁ m₁ j₁ a₁ → StepPromise w board s m level vector j mark s₂ m₂ j₂ a₂

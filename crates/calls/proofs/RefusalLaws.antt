@@ -1,12 +1,12 @@
 -- RefusalLaws.antt - demand 1: the numbered refusals are given exactly when the tables say, and a refused call alters nothing.
 -- * reset-verdict, step-verdict, run-verdict, undo-verdict: the number is n if and only if n is that of the first line of the call's table
---   that applies (exactly); it is 0 if and only if no line applies (done). The numbers do not rise along a table: 10 stands third.
+--   that applies (exactly); it is 0 if and only if no line applies (done). The numbers do not rise along a table: 12 stands second, 10 fourth.
 -- * given-unique: a table gives one number.
 -- * step-refused, run-refused, undo-refused: a call whose number is not 0 gives back slots, memory, journal and mark as given, and 0 for the rest.
 -- * reset-refused: a refused reset gives the fixed state.
 -- * step-accepted, run-accepted, undo-accepted: a call whose number is 0 is the step, the run, the undo of the definitions.
 -- * first-passed, first-stopped, first-inv, first-when: the tests that step, run and undo have in common, apart from what is last.
--- Source: [01 Calls and what they give back], [K5], [K7].
+-- Source: [01 Calls and what they give back], [K5], [K7], [K10].
 use Prim.Native.Nat.{ℕ, zero, suc, _+_, _-_, _%_, _≤_, _<_}
 use mathlib.Core.Path.{_≡_, refl, sym, ap, _∙_}
 use mathlib.Core.Logic.{_↔_}
@@ -16,6 +16,7 @@ use native.Mathlib.Omega.{arith}
 use lib.ListN.{length}
 use lib.Dec.{ltb, leb, eqb}
 use borrow.Author.Tests.{ltb-true, ltb-false, leb-false, eqb-true, eqb-false, lt-ltb, le-ltb, eq-eqb, ne-eqb, not-true, not-false}
+use Rattle.codes.specs.Codes.{RomStart, MostRom}
 use Rattle.bits.specs.Bits.{pick}
 use Rattle.bits.proofs.BitsLaws.{pick-cases, and-left, and-right}
 use Rattle.bus.specs.Bus.{Board}
@@ -28,13 +29,13 @@ use Rattle.undo.proofs.UndoLaws.{undo-when-none, none-when-refused}
 use Rattle.oldest.specs.Room.{Way, rows, torn, rows-of}
 use Rattle.calls.specs.declared.Manner.{Manner}
 use Rattle.calls.specs.declared.Manner.the-variants.{Dropping, Keeping}
-use Rattle.calls.specs.Calls.{StepCall, RunCall, memory-fits, state-fits, window-fits, first-tests, reset-number, reset-call, refused-slots, no-room, is-torn, torn-way}
+use Rattle.calls.specs.Calls.{StepCall, RunCall, memory-fits, rom-fits, state-fits, window-end, window-fits, first-tests, reset-number, reset-call, refused-slots, no-room, is-torn, torn-way}
 use Rattle.calls.specs.Calls.{step-tests, step-number, step-taken, step-with-room, step-call}
 use Rattle.calls.specs.Calls.{run-number, running, run-call, undo-number, undo-answer, undo-call}
 use Rattle.calls.specs.Refusals.{Line, Given, zero-at-end, this, later, NoneApplies, BadMemory, odd, short, long, BadState, stray-bit}
-use Rattle.calls.specs.Refusals.{no-mode, BadWindow, turned-round, past-memory, memory-line, state-line, window-line, first-lines, NoRoom}
+use Rattle.calls.specs.Refusals.{no-mode, BadRom, odd-rom, long-rom, no-place, BadWindow, turned-round, past-end, memory-line, rom-line, state-line, window-line, first-lines, NoRoom}
 use Rattle.calls.specs.Refusals.{TornWay, when-dropping, reset-table, step-table, run-table, undo-table}
-use Rattle.calls.proofs.ValidLaws.{fits-inv, state-inv, window-inv}
+use Rattle.calls.proofs.ValidLaws.{BoardFits, fits-inv, rom-inv, state-inv, window-inv}
 
 -- ---- a table gives one number
 pub given-unique : (t : List Line) (n k : ℕ) → Given t n → Given t k → n ≡ k
@@ -80,7 +81,7 @@ verdict t c r g =
     }
 
 -- ---- a choice by a test is a line of a table
-given-pick : {k : ℕ} {ls : List Line} (b : Bool) (n : ℕ) (A : Type 0) → (b ≡ true → A) → (b ≡ false → A → ⊥) → Given ls k → Given (record { number = n; applies = A } ∷ ls) (pick b n k)
+pub given-pick : {k : ℕ} {ls : List Line} (b : Bool) (n : ℕ) (A : Type 0) → (b ≡ true → A) → (b ≡ false → A → ⊥) → Given ls k → Given (record { number = n; applies = A } ∷ ls) (pick b n k)
 given-pick true n A f g rest = this (f refl) refl
 given-pick false n A f g rest = later (g refl) rest
 
@@ -116,21 +117,42 @@ pub no-bad-state : (s : List ℕ) → state-fits s ≡ true → BadState s → �
 no-bad-state s e (stray-bit h) = let f = state-inv s e .0 in absurd (let z : _≡_ {A = ℕ} 0 1 = cc in omega arith)
 no-bad-state s e (no-mode h) = let f = state-inv s e .1 in omega arith
 
-pub bad-window-when : (board : Board) (m : List ℕ) → window-fits board m ≡ false → BadWindow board m
-bad-window-when board m e = go (leb (board .lo) (board .hi)) refl (leb (board .hi) (length m)) refl
+pub bad-rom-when : (rom m : List ℕ) → rom-fits rom m ≡ false → BadRom rom m
+bad-rom-when rom m e = go (eqb (length rom % 2) 0) refl (leb (length rom) MostRom) refl (eqb (length rom) 0) refl (leb (length m) RomStart) refl
   where
-    go : (a : Bool) → leb (board .lo) (board .hi) ≡ a → (b : Bool) → leb (board .hi) (length m) ≡ b → BadWindow board m
-    go false p b q = turned-round (leb-false (board .lo) (board .hi) p)
-    go true p false q = past-memory (leb-false (board .hi) (length m) q)
+    go : (a : Bool) → eqb (length rom % 2) 0 ≡ a → (b : Bool) → leb (length rom) MostRom ≡ b → (c : Bool) → eqb (length rom) 0 ≡ c
+        → (d : Bool) → leb (length m) RomStart ≡ d → BadRom rom m
+    go false p b q c r d u = odd-rom (let h = eqb-false (length rom % 2) 0 p in omega arith)
+    go true p false q c r d u = long-rom (leb-false (length rom) MostRom q)
+    go true p true q false r false u = no-place (let h = eqb-false (length rom) 0 r in omega arith) (leb-false (length m) RomStart u)
+    go true p true q true r d u = let no-way : true ≡ false = rw (p, q, r) at e in absurd (let z : _≡_ {A = ℕ} 0 1 = cc in omega arith)
+    go true p true q false r true u = let no-way : true ≡ false = rw (p, q, r, u) at e in absurd (let z : _≡_ {A = ℕ} 0 1 = cc in omega arith)
+
+pub no-bad-rom : (rom m : List ℕ) → rom-fits rom m ≡ true → BadRom rom m → ⊥
+no-bad-rom rom m e (odd-rom h) = let f = rom-inv rom m e .0 in omega arith
+no-bad-rom rom m e (long-rom h) = let f = rom-inv rom m e .1 in omega arith
+no-bad-rom rom m e (no-place h k) = let f = rom-inv rom m e .2 h in omega arith
+
+pub bad-window-when : (board : Board) (m : List ℕ) → window-fits board m ≡ false → BadWindow board m
+bad-window-when board m e = go (leb (board .window .lo) (board .window .hi)) refl (leb (board .window .hi) (window-end (board .rom) m)) refl
+  where
+    go : (a : Bool) → leb (board .window .lo) (board .window .hi) ≡ a → (b : Bool) → leb (board .window .hi) (window-end (board .rom) m) ≡ b → BadWindow board m
+    go false p b q = turned-round (leb-false (board .window .lo) (board .window .hi) p)
+    go true p false q = past-end (leb-false (board .window .hi) (window-end (board .rom) m) q)
     go true p true q = let no-way : true ≡ false = rw (p, q) at e in absurd (let z : _≡_ {A = ℕ} 0 1 = cc in omega arith)
 
 pub no-bad-window : (board : Board) (m : List ℕ) → window-fits board m ≡ true → BadWindow board m → ⊥
 no-bad-window board m e (turned-round h) = let f = window-inv board m e .0 in omega arith
-no-bad-window board m e (past-memory h) = let f = window-inv board m e .1 in omega arith
+no-bad-window board m e (past-end h) = let f = window-inv board m e .1 in omega arith
 
 module _ {k : ℕ} {ls : List Line} (rest : Given ls k) where
-  memory-given : (m : List ℕ) → Given (memory-line m ∷ ls) (pick (not (memory-fits m)) 1 k)
+  pub memory-given : (m : List ℕ) → Given (memory-line m ∷ ls) (pick (not (memory-fits m)) 1 k)
   memory-given m = given-pick (not (memory-fits m)) 1 (BadMemory m) (λ e. bad-memory-when m (not-true (memory-fits m) e)) (λ e. no-bad-memory m (not-false (memory-fits m) e)) rest
+
+  pub rom-given : (rom m : List ℕ) → Given (rom-line rom m ∷ ls) (pick (not (rom-fits rom m)) 12 k)
+  rom-given rom m =
+      given-pick (not (rom-fits rom m)) 12 (BadRom rom m) (λ e. bad-rom-when rom m (not-true (rom-fits rom m) e))
+      (λ e. no-bad-rom rom m (not-false (rom-fits rom m) e)) rest
 
   state-given : (s : List ℕ) → Given (state-line s ∷ ls) (pick (not (state-fits s)) 2 k)
   state-given s = given-pick (not (state-fits s)) 2 (BadState s) (λ e. bad-state-when s (not-true (state-fits s) e)) (λ e. no-bad-state s (not-false (state-fits s) e)) rest
@@ -169,18 +191,19 @@ when-stopped : (f : ℕ → ℕ) → Settled f → (last : ℕ) → (f 0 ≡ 0 �
 when-stopped f (passed p) last h = absurd (h (p 0))
 when-stopped f (stopped n z p) last h = p last ∙ sym (p 0)
 
--- ---- the tests that come first: 1, 2 and 10
+-- ---- the tests that come first: 1, 12, 2 and 10
 module _ (board : Board) (s m : List ℕ) where
   pub first-given : {k : ℕ} {ls : List Line} → Given ls k → Given (first-lines board s m ls) (first-tests board s m k)
   unfolding first-tests
-  first-given rest = memory-given (state-given (window-given rest board m) s) m
+  first-given rest = memory-given (rom-given (state-given (window-given rest board m) s) (board .rom) m) m
 
   first-settled : Settled (first-tests board s m)
   unfolding first-tests
   first-settled =
-      settled-pick (λ last. pick (not (state-fits s)) 2 (pick (not (window-fits board m)) 10 last)) (not (memory-fits m)) 0
+      settled-pick (λ last. pick (not (rom-fits (board .rom) m)) 12 (pick (not (state-fits s)) 2 (pick (not (window-fits board m)) 10 last))) (not (memory-fits m)) 0
+      (settled-pick (λ last. pick (not (state-fits s)) 2 (pick (not (window-fits board m)) 10 last)) (not (rom-fits (board .rom) m)) 11
       (settled-pick (λ last. pick (not (window-fits board m)) 10 last) (not (state-fits s)) 1
-      (settled-pick (λ last. last) (not (window-fits board m)) 9 (passed (λ last. refl))))
+      (settled-pick (λ last. last) (not (window-fits board m)) 9 (passed (λ last. refl)))))
 
   pub first-passed : (last : ℕ) → first-tests board s m 0 ≡ 0 → first-tests board s m last ≡ last
   first-passed last e = when-passed (first-tests board s m) first-settled last e
@@ -188,33 +211,34 @@ module _ (board : Board) (s m : List ℕ) where
   pub first-stopped : (last : ℕ) → (first-tests board s m 0 ≡ 0 → ⊥) → first-tests board s m last ≡ first-tests board s m 0
   first-stopped last h = when-stopped (first-tests board s m) first-settled last h
 
-  pub first-inv : (last : ℕ) → first-tests board s m last ≡ 0 → (memory-fits m ≡ true) × (state-fits s ≡ true) × (window-fits board m ≡ true) × (last ≡ 0)
+  pub first-inv : (last : ℕ) → first-tests board s m last ≡ 0 → (memory-fits m ≡ true) × (state-fits s ≡ true) × BoardFits board m × (last ≡ 0)
   unfolding first-tests
   first-inv last e =
       let e₁ = pick-zero (not (memory-fits m)) 0 _ e in
-      let e₂ = pick-zero (not (state-fits s)) 1 _ (e₁ .1) in
-      let e₃ = pick-zero (not (window-fits board m)) 9 _ (e₂ .1) in
-      (not-false (memory-fits m) (e₁ .0), not-false (state-fits s) (e₂ .0), not-false (window-fits board m) (e₃ .0), e₃ .1)
+      let e₂ = pick-zero (not (rom-fits (board .rom) m)) 11 _ (e₁ .1) in
+      let e₃ = pick-zero (not (state-fits s)) 1 _ (e₂ .1) in
+      let e₄ = pick-zero (not (window-fits board m)) 9 _ (e₃ .1) in (
+        not-false (memory-fits m) (e₁ .0),
+        not-false (state-fits s) (e₃ .0),
+        (not-false (rom-fits (board .rom) m) (e₂ .0), not-false (window-fits board m) (e₄ .0)),
+        e₄ .1,
+      )
 
-  pub first-when : (last : ℕ) → memory-fits m ≡ true → state-fits s ≡ true → window-fits board m ≡ true → first-tests board s m last ≡ last
+  pub first-when : (last : ℕ) → memory-fits m ≡ true → state-fits s ≡ true → BoardFits board m → first-tests board s m last ≡ last
   unfolding first-tests
-  first-when last f g h = rw (f, g, h)
+  first-when last f g h = rw (f, h .0, g, h .1)
 
 -- ---- reset
-pub reset-verdict : (m : List ℕ) → Verdict (reset-table m) (reset-number m)
-reset-verdict m = verdict (reset-table m) (reset-number m) (omega arith) (go (memory-fits m) refl)
-  where
-    go : (b : Bool) → memory-fits m ≡ b → Given (reset-table m) (pick b 0 1)
-    go true e = later (no-bad-memory m e) zero-at-end
-    go false e = this (bad-memory-when m e) refl
+pub reset-given : (m rom : List ℕ) → Given (reset-table m rom) (reset-number m rom)
+unfolding reset-number
+reset-given m rom = memory-given (rom-given zero-at-end rom m) m
 
-pub reset-refused : (m : List ℕ) → (reset-number m ≡ 0 → ⊥) → reset-call m ≡ refused-slots
+pub reset-verdict : (m rom : List ℕ) → Verdict (reset-table m rom) (reset-number m rom)
+reset-verdict m rom = verdict (reset-table m rom) (reset-number m rom) (omega arith) (reset-given m rom)
+
+pub reset-refused : (m rom : List ℕ) → (reset-number m rom ≡ 0 → ⊥) → reset-call m rom ≡ refused-slots
 unfolding reset-call
-reset-refused m h = go (memory-fits m) refl
-  where
-    go : (b : Bool) → memory-fits m ≡ b → reset-call m ≡ refused-slots
-    go true e = absurd (h (rw e))
-    go false e = rw e
+reset-refused m rom h = rw (ne-eqb (reset-number m rom) 0 h)
 
 -- the number n of a call: it is taken where n is 0, and else refused with n
 call-number : {A : Type 0} (f : A → ℕ) (n : ℕ) (t r : A) → f t ≡ 0 → f r ≡ n → f (pick (eqb n 0) t r) ≡ n
@@ -300,7 +324,7 @@ module _ (w : Manner) (board : Board) (s m : List ℕ) (level : ℕ) (j : List �
 
   -- what a step that passes the tests may rest on
   pub tests-inv : (last : ℕ) → step-tests w board s m level j mark last ≡ 0
-      → (memory-fits m ≡ true) × (state-fits s ≡ true) × (level ≤ 7) × (mark ≤ length j) × (no-room w j mark ≡ false) × (mode-of s ≡ 2 → ⊥) × (last ≡ 0) × (window-fits board m ≡ true)
+      → (memory-fits m ≡ true) × (state-fits s ≡ true) × (level ≤ 7) × (mark ≤ length j) × (no-room w j mark ≡ false) × (mode-of s ≡ 2 → ⊥) × (last ≡ 0) × (BoardFits board m)
   unfolding step-tests
   tests-inv last e =
       let i = first-inv board s m (further last) e in
@@ -320,13 +344,13 @@ module _ (w : Manner) (board : Board) (s m : List ℕ) (level : ℕ) (j : List �
 
   -- what an accepted step may rest on
   pub step-inv : step-number w board s m level j mark ≡ 0
-      → (memory-fits m ≡ true) × (state-fits s ≡ true) × (level ≤ 7) × (mark ≤ length j) × (no-room w j mark ≡ false) × (mode-of s ≡ 2 → ⊥) × (torn-way w (length m) j mark ≡ false) × (window-fits board m ≡ true)
+      → (memory-fits m ≡ true) × (state-fits s ≡ true) × (level ≤ 7) × (mark ≤ length j) × (no-room w j mark ≡ false) × (mode-of s ≡ 2 → ⊥) × (torn-way w (length m) j mark ≡ false) × (BoardFits board m)
   unfolding step-number
   step-inv e =
       let i = tests-inv (pick (torn-way w (length m) j mark) 8 0) e in
       (i .0, i .1, i .2, i .3, i .4, i .5, pick-zero (torn-way w (length m) j mark) 7 0 (i .6) .0, i .7)
 
-  pub step-number-when : memory-fits m ≡ true → state-fits s ≡ true → window-fits board m ≡ true → level ≤ 7 → mark ≤ length j → no-room w j mark ≡ false → (mode-of s ≡ 2 → ⊥) → torn-way w (length m) j mark ≡ false
+  pub step-number-when : memory-fits m ≡ true → state-fits s ≡ true → BoardFits board m → level ≤ 7 → mark ≤ length j → no-room w j mark ≡ false → (mode-of s ≡ 2 → ⊥) → torn-way w (length m) j mark ≡ false
       → step-number w board s m level j mark ≡ 0
   unfolding step-number step-tests
   step-number-when f g o h i k r t =
@@ -352,7 +376,7 @@ module _ (board : Board) (s m : List ℕ) (budget : ℕ) (j : List ℕ) (mark : 
   unfolding run-number
   run-given = first-given board s m (below-given (below-given zero-at-end 4 (length j) mark) 3 1000000 budget)
 
-  pub run-inv : run-number board s m budget j mark ≡ 0 → (memory-fits m ≡ true) × (state-fits s ≡ true) × (budget ≤ 1000000) × (mark ≤ length j) × (window-fits board m ≡ true)
+  pub run-inv : run-number board s m budget j mark ≡ 0 → (memory-fits m ≡ true) × (state-fits s ≡ true) × (budget ≤ 1000000) × (mark ≤ length j) × (BoardFits board m)
   unfolding run-number
   run-inv e =
       let i = first-inv board s m _ e in
@@ -426,6 +450,6 @@ module _ (board : Board) (s m j : List ℕ) (mark : ℕ) where
       go true e (Done start) f = absurd (h (rw (e, f)))
       go true e Refused f = let u = undo-when-none s m j mark (none-when-refused s m j mark f) in rw (e, u)
 
-  pub undo-number-when : memory-fits m ≡ true → state-fits s ≡ true → window-fits board m ≡ true → mark ≤ length j → (mark ≡ 0 → ⊥) → undo-number board s m j mark ≡ 0
+  pub undo-number-when : memory-fits m ≡ true → state-fits s ≡ true → BoardFits board m → mark ≤ length j → (mark ≡ 0 → ⊥) → undo-number board s m j mark ≡ 0
   unfolding undo-number
   undo-number-when f g o h i = first-when board s m _ f g o ∙ rw (le-ltb (length j) mark h, ne-eqb mark 0 i)

@@ -24,14 +24,14 @@ use Rattle.oldest.specs.Room.{capped}
 use Rattle.calls.specs.declared.Manner.{Manner}
 use Rattle.calls.specs.declared.Manner.the-variants.{Dropping, Keeping}
 use Rattle.calls.specs.declared.StepAnswer.{StepAnswer}
-use Rattle.calls.specs.Calls.{memory-fits, state-fits, window-fits, no-room, torn-way, StepCall, RunCall, step-with-room, ended, running}
+use Rattle.calls.specs.Calls.{memory-fits, state-fits, no-room, torn-way, StepCall, RunCall, step-with-room, ended, running}
 use Rattle.calls.specs.Refusals.{Line, Given, this, later, NoneApplies, NoRoom, TornWay, when-dropping, reasons}
 use Rattle.calls.specs.History.{Machine, Request, step-of, run-of, stepping, running-on, act, record-after, one-more}
-use Rattle.calls.proofs.ValidLaws.{Lent, Valid, lent-when-valid, valid-when-accepted, state-fits-when}
+use Rattle.calls.proofs.ValidLaws.{BoardFits, Lent, Valid, lent-when-valid, valid-when-accepted, state-fits-when}
 use Rattle.calls.proofs.JournalLaws.{JournalLent}
 use Rattle.calls.proofs.RefusalLaws.{step-call-number, step-accepted, step-number-when, run-inv, run-call-number, run-accepted}
 use Rattle.calls.proofs.RefusalLaws.{torn-way-when, no-torn-way}
-use Rattle.calls.proofs.ActLaws.{room-at, seen-at, act-step, step-valid, step-room, valid-after, window-after, lent-after, journal-lent-after}
+use Rattle.calls.proofs.ActLaws.{room-at, seen-at, act-step, step-valid, step-room, valid-after, board-after, lent-after, journal-lent-after}
 use Rattle.calls.proofs.FrameLaws.{Framed, framed-refl, framed-trans, NotAmong, step-frame, step-memory}
 
 -- one step call with level 0
@@ -158,7 +158,7 @@ module _ (w : Manner) where
       way-none Dropping e g = (no-torn-way (length (x .memory)) (x .journal) (x .mark) e, g)
       way-none Keeping e g = g
 
-    module _ (x : Machine) (valid : Valid (x .slots) (x .memory)) (fits : window-fits (x .board) (x .memory) ≡ true) (lent : JournalLent w (x .journal)) (inside : x .mark ≤ length (x .journal)) where
+    module _ (x : Machine) (valid : Valid (x .slots) (x .memory)) (fits : BoardFits (x .board) (x .memory)) (lent : JournalLent w (x .journal)) (inside : x .mark ≤ length (x .journal)) where
       one-accepted : no-room w (x .journal) (x .mark) ≡ false → torn-way w (length (x .memory)) (x .journal) (x .mark) ≡ false → (mode-of (x .slots) ≡ 2 → ⊥) → stepping w 0 0 x .a .number ≡ 0
       one-accepted free whole runs =
           step-call-number w (x .board) (x .slots) (x .memory) 0 (x .journal) (x .mark) 0
@@ -168,8 +168,8 @@ module _ (w : Manner) where
         one-valid : Valid (one x .slots) (one x .memory)
         one-valid = rw (act-step w plain x ok) (valid-after plain (seen-at w x) valid)
 
-        one-fits : window-fits (one x .board) (one x .memory) ≡ true
-        one-fits = rw (act-step w plain x ok) (window-after plain (seen-at w x) valid fits)
+        one-fits : BoardFits (one x .board) (one x .memory)
+        one-fits = rw (act-step w plain x ok) (board-after plain (seen-at w x) valid fits)
 
         one-lent : JournalLent w (one x .journal)
         one-lent = journal-lent-after w plain x (lent-when-valid (x .slots) (x .memory) valid) lent ok
@@ -186,7 +186,7 @@ module _ (w : Manner) where
       there-line = record { number = 5; applies = pc-of (x .slots) ≡ stop }
 
       ran-on : (k n t v u : ℕ) → n + suc k ≡ budget
-          → ((y : Machine) (t v u : ℕ) → Valid (y .slots) (y .memory) → window-fits (y .board) (y .memory) ≡ true → JournalLent w (y .journal) → y .mark ≤ length (y .journal) → Ran budget stop (n + 1) t v u y (left k (n + 1) t v u y))
+          → ((y : Machine) (t v u : ℕ) → Valid (y .slots) (y .memory) → BoardFits (y .board) (y .memory) → JournalLent w (y .journal) → y .mark ≤ length (y .journal) → Ran budget stop (n + 1) t v u y (left k (n + 1) t v u y))
           → Ran budget stop n t v u x (left (suc k) n t v u x)
       unfolding running
       ran-on k n t v u e next =
@@ -240,7 +240,7 @@ module _ (w : Manner) where
               (onward n t v u x rest ok
               (spent, (runs, (eqb-false (mode-of (x .slots)) 1 q, (room-free w (x .journal) (x .mark) r, way-none x 6 (there-line ∷ []) w o (eqb-false (pc-of (x .slots)) stop s, tt))))) then)
 
-    ran : (k n t v u : ℕ) (x : Machine) → n + k ≡ budget → Valid (x .slots) (x .memory) → window-fits (x .board) (x .memory) ≡ true → JournalLent w (x .journal) → x .mark ≤ length (x .journal) → Ran budget stop n t v u x (left k n t v u x)
+    ran : (k n t v u : ℕ) (x : Machine) → n + k ≡ budget → Valid (x .slots) (x .memory) → BoardFits (x .board) (x .memory) → JournalLent w (x .journal) → x .mark ≤ length (x .journal) → Ran budget stop n t v u x (left k n t v u x)
     unfolding running
     ran zero n t v u x e valid fits lent h = here 1 n t v u x (omega arith) (this (omega arith) refl) (λ z. omega arith)
     ran (suc k) n t v u x e valid fits lent h = ran-on x valid fits lent h k n t v u e (λ y t v u f g i l. ran k (n + 1) t v u y (omega arith) f g i l)
@@ -276,7 +276,7 @@ module _ (w : Manner) where
       } in
       subst (AsSteps budget stop x) steps all
 
-  run-accepted-inv : (budget stop : ℕ) (x : Machine) → running-on w budget stop x .a .number ≡ 0 → (memory-fits (x .memory) ≡ true) × (state-fits (x .slots) ≡ true) × (budget ≤ 1000000) × (x .mark ≤ length (x .journal)) × (window-fits (x .board) (x .memory) ≡ true)
+  run-accepted-inv : (budget stop : ℕ) (x : Machine) → running-on w budget stop x .a .number ≡ 0 → (memory-fits (x .memory) ≡ true) × (state-fits (x .slots) ≡ true) × (budget ≤ 1000000) × (x .mark ≤ length (x .journal)) × (BoardFits (x .board) (x .memory))
   run-accepted-inv budget stop x e =
       run-inv (x .board) (x .slots) (x .memory) budget (x .journal) (x .mark) (sym (run-call-number (x .board) (x .slots) (x .memory) budget (x .journal) (x .mark) w stop) ∙ e)
 

@@ -1,18 +1,18 @@
 -- ValidLaws.antt - Lent: what is so of anything that is lent. Valid: what is so of it once a call accepts it. A step keeps it.
--- * valid-when-accepted, lent-when-valid, state-fits-when, fits-inv, state-inv, window-inv: how each follows from the other.
--- * valid-after-step, window-after-step, record-room: after a step from a valid state the state is valid, a window that fits does so still,
+-- * valid-when-accepted, lent-when-valid, state-fits-when, fits-inv, rom-inv, state-inv, window-inv: how each follows from the other.
+-- * valid-after-step, board-after-step, record-room: after a step from a valid state the state is valid, a board that fits does so still,
 --   and the step's record is short enough.
--- Source: [01 State], [01 The journal], [00 demand 3], [K7].
+-- Source: [01 State], [01 The journal], [00 demand 3], [K7], [K10].
 use Prim.Native.Nat.{ℕ, _%_, _^_, _≤_, _<_}
 use mathlib.Core.Path.{_≡_, refl}
-use mathlib.Core.Bool.{Bool, true, false, _&&_}
+use mathlib.Core.Bool.{Bool, true, false, _&&_, _||_}
 use mathlib.Core.List.{List}
 use native.Mathlib.Nat.{zero-add}
 use native.Mathlib.Omega.{arith}
 use lib.ListN.{length, getD, List·getD-eq-default}
 use lib.Dec.{ltb, leb, eqb}
 use borrow.Author.Tests.{le-leb, leb-true, eqb-true, ltb-true, ltb-false}
-use Rattle.codes.specs.Codes.{Sr, Mode}
+use Rattle.codes.specs.Codes.{RomStart, MostRom, Sr, Mode}
 use Rattle.bits.proofs.BitsLaws.{and-left, and-right}
 use Rattle.bus.specs.Bus.{Board}
 use Rattle.bank.specs.Bank.{sr-of, mode-of}
@@ -23,7 +23,7 @@ use Rattle.record.proofs.SizeLaws.{record-length, valid-slots-from}
 use Rattle.step.specs.Steps.{one-step}
 use Rattle.step.proofs.PlacesLaws.{each-at}
 use Rattle.step.proofs.KeepLaws.{Kept, one-step-keeps}
-use Rattle.calls.specs.Calls.{memory-fits, state-fits, window-fits}
+use Rattle.calls.specs.Calls.{memory-fits, rom-fits, state-fits, window-end, window-fits}
 
 -- anything that is lent: twenty slots of 32 bits, and bytes
 pub record Lent (s m : List ℕ) : Type 0 where
@@ -39,6 +39,11 @@ pub record Valid (s m : List ℕ) : Type 0 where
   pub fits : memory-fits m ≡ true
 
 -- ---- the tests of the calls
+-- one of two
+or-cases : (a b : Bool) {C : Type 0} → (a || b) ≡ true → (a ≡ true → C) → (b ≡ true → C) → C
+or-cases true b e f g = f refl
+or-cases false b e f g = g e
+
 -- a memory that fits
 pub fits-inv : (m : List ℕ) → memory-fits m ≡ true → (length m % 2 ≡ 0) × (1024 ≤ length m) × (length m ≤ 16777216)
 fits-inv m e =
@@ -55,12 +60,30 @@ state-inv s e =
     let b = leb (mode-of s) 2 in
     (and-left a b e, leb-true (mode-of s) 2 (and-right a b e))
 
+-- a ROM that fits
+pub rom-inv : (rom m : List ℕ) → rom-fits rom m ≡ true → (length rom % 2 ≡ 0) × (length rom ≤ MostRom) × (0 < length rom → length m ≤ RomStart)
+rom-inv rom m e =
+    let a = eqb (length rom % 2) 0 in
+    let b = leb (length rom) MostRom in
+    let c = eqb (length rom) 0 || leb (length m) RomStart in
+    let ab = and-left (a && b) c e in (
+      eqb-true (length rom % 2) 0 (and-left a b ab),
+      leb-true (length rom) MostRom (and-right a b ab),
+      λ some. or-cases (eqb (length rom) 0) (leb (length m) RomStart) (and-right (a && b) c e)
+          (λ h. let z = eqb-true (length rom) 0 h in omega arith) (λ h. leb-true (length m) RomStart h),
+    )
+
 -- a window that fits
-pub window-inv : (board : Board) (m : List ℕ) → window-fits board m ≡ true → (board .lo ≤ board .hi) × (board .hi ≤ length m)
+pub window-inv : (board : Board) (m : List ℕ) → window-fits board m ≡ true
+    → (board .window .lo ≤ board .window .hi) × (board .window .hi ≤ window-end (board .rom) m)
 window-inv board m e =
-    let a = leb (board .lo) (board .hi) in
-    let b = leb (board .hi) (length m) in
-    (leb-true (board .lo) (board .hi) (and-left a b e), leb-true (board .hi) (length m) (and-right a b e))
+    let a = leb (board .window .lo) (board .window .hi) in
+    let b = leb (board .window .hi) (window-end (board .rom) m) in
+    (leb-true (board .window .lo) (board .window .hi) (and-left a b e), leb-true (board .window .hi) (window-end (board .rom) m) (and-right a b e))
+
+-- a board that fits: its ROM and its window
+abbrev pub BoardFits : Board → List ℕ → Type 0
+BoardFits board m = (rom-fits (board .rom) m ≡ true) × (window-fits board m ≡ true)
 
 -- ---- what is lent, once it is accepted, is valid
 lent-word : (s : List ℕ) → Each (λ k v. v < 2 ^ 32) 0 s → (k : ℕ) → getD s k 0 < 2 ^ 32
@@ -119,8 +142,8 @@ module _ (board : Board) (s m : List ℕ) (level vector : ℕ) (v : Valid s m) w
       }
 
   -- and a window that fits does so still
-  pub window-after-step : window-fits board m ≡ true → window-fits board (one-step board s m level vector .m) ≡ true
-  window-after-step e = rw (kept-by .memory) e
+  pub board-after-step : BoardFits board m → BoardFits board (one-step board s m level vector .m)
+  board-after-step e = rw (kept-by .memory) e
 
   -- its record is at most longest-record bytes long
   pub record-room : length (step-record s (one-step board s m level vector .s) m (one-step board s m level vector .m)) ≤ longest-record

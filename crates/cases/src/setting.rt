@@ -42,8 +42,8 @@ pub fn put_bytes(text: &[u8], to: &mut [u8], at: usize, clear: bool) -> bool {
     good
 }
 
-// A run is a place, a colon and bytes.
-fn put_run(run: &[u8], to: &mut [u8], clear: bool) -> bool {
+// A run is a place, a colon and bytes; places are counted from that of the first byte.
+fn put_run(run: &[u8], to: &mut [u8], first: u64, clear: bool) -> bool {
     if marks(run, b':') != 1 {
         return false;
     }
@@ -51,7 +51,10 @@ fn put_run(run: &[u8], to: &mut [u8], clear: bool) -> bool {
     if NO_NUMBER <= at {
         return false;
     }
-    put_bytes(piece(run, b':', 1), to, at as usize, clear)
+    if at < first {
+        return false;
+    }
+    put_bytes(piece(run, b':', 1), to, (at - first) as usize, clear)
 }
 
 fn is_none(list: &[u8]) -> bool {
@@ -69,17 +72,22 @@ pub fn put_all(spelled: &[u8], to: &mut [u8]) -> bool {
     put_bytes(spelled, to, 0, false)
 }
 
-// Puts, or clears, every run of a list.
+// Puts, or clears, every run of a list that has one or more.
+pub fn put_each(runs: &[u8], to: &mut [u8], first: u64, clear: bool) -> bool {
+    let mut good = true;
+    for k in 0..=marks(runs, b',') {
+        let put = put_run(piece(runs, b',', k), to, first, clear);
+        good = good & put;
+    }
+    good
+}
+
+// Puts, or clears, every run of a list; a hyphen is none.
 pub fn put_runs(runs: &[u8], to: &mut [u8], clear: bool) -> bool {
     if is_none(runs) {
         return true;
     }
-    let mut good = true;
-    for k in 0..=marks(runs, b',') {
-        let put = put_run(piece(runs, b',', k), to, clear);
-        good = good & put;
-    }
-    good
+    put_each(runs, to, 0, clear)
 }
 
 fn put_slot(slots: &mut [u32; SLOTS], k: usize, value: u64) -> bool {

@@ -6,7 +6,7 @@ use compare::verdicts::SKIPPED;
 use libc::STDOUT_FILENO;
 
 // how many of the cases that differ are named
-const NAMED: u64 = 200;
+const NAMED: u64 = 300;
 
 pub struct Tally {
     pub agree: u64,

@@ -65,6 +65,13 @@ pub fn piece(text: &[u8], mark: u8, k: usize) -> &[u8] {
     &text[from..to]
 }
 
+// Text after its first mark; nothing if it has none.
+pub fn rest(text: &[u8], mark: u8) -> &[u8] {
+    let from = piece_start(text, mark, 1);
+    let to = text.len();
+    &text[from..to]
+}
+
 // Field k of a line, counted from 0: one space parts the fields.
 pub fn field(text: &[u8], k: usize) -> &[u8] {
     piece(text, b' ', k)

@@ -1,4 +1,4 @@
-// lib.rt - what programs for a person share: text and numbers on standard output and error, what standard input still has, slots by name.
+// lib.rt - what programs for a person share: text and numbers on standard output and error, what an input still has, slots by name.
 // Means: nothing; proved safe. Addresses have six digits or more of base 16, bytes two.
 // Uses: codes, io, libc.  Source: [ours].
 pub mod slots;
@@ -54,10 +54,15 @@ pub fn complain_number(n: u64) {
     io::print_decimal(STDERR_FILENO, n);
 }
 
-// ---- standard input
+// ---- input
 
-// Whether it has a byte more, which is then read.
-pub fn has_more() -> bool {
+// Whether a file has a byte more, which is then read.
+pub fn file_has_more(file: i32) -> bool {
     let mut more = [0u8; 1];
-    io::read_full(STDIN_FILENO, &mut more) != 0
+    io::read_full(file, &mut more) != 0
+}
+
+// Whether standard input has.
+pub fn has_more() -> bool {
+    file_has_more(STDIN_FILENO)
 }

@@ -1,12 +1,13 @@
 -- FenceLaws.antt - K7's theorems for rows of step calls, in either manner.
 -- * user-calls-leave: theorem 1. From user state, before the first step that takes an exception or halts, T, S, mask, SSP and every byte outside the
 --   window stay as they were.
--- * alike-calls: theorem 2. Two machines that agree on all slots but SSP, lo, hi, window bytes, memory length, requests, journal length and mark
---   give the same answers (numbers, events, marks, clocks), write the same records and stay alike up to there, where neither drops records.
+-- * alike-calls: theorem 2. Two machines that agree on all slots but SSP, lo, hi, the bytes of memory and ROM in the window, the lengths of both,
+--   requests, journal length and mark give the same answers (numbers, events, marks, clocks), write the same records and stay alike up to there,
+--   where neither drops records.
 -- * same-vector: there they take the same exception first, unless one of them halts.
 -- * same-number: a call is refused on both with the same number, or on neither.
 -- * alike-keeping, vector-keeping: the same in the manner Keeping, which drops no record (keeping-drops-none).
--- Uses: bits, bus, bank, numbers, record, oldest, step, calls.  Source: [K7], [K5].
+-- Uses: bits, bus, bank, numbers, record, oldest, step, calls.  Source: [K7], [K5], [K10].
 use Prim.Native.Nat.{ℕ, _+_, _-_, _<_, _≤_}
 use native.Mathlib.Omega.{arith}
 use mathlib.Core.Path.{_≡_, refl, sym, ap, _∙_, subst, subst₂}
@@ -16,8 +17,9 @@ use lib.ListN.{length, take}
 use lib.Seq.{slice, slice-empty, drop-at, length-take-le}
 use lib.Dec.{ltb, eqb}
 use borrow.Author.Tests.{eqb-true, eqb-false}
-use Rattle.codes.specs.Codes.{NoEvent, HaltEvent}
+use Rattle.codes.specs.Codes.{RomStart, NoEvent, HaltEvent}
 use Rattle.bits.specs.Bits.{pick}
+use Rattle.bus.specs.declared.Window.{Window}
 use Rattle.bus.specs.Bus.{Board}
 use Rattle.bank.specs.Bank.{sr-of, supervisor}
 use Rattle.numbers.specs.Number.{written}
@@ -32,16 +34,16 @@ use Rattle.calls.specs.History.{Machine, Request, act, one-more}
 use Rattle.calls.proofs.ValidLaws.{record-room}
 use Rattle.calls.proofs.RefusalLaws.{torn-way-when, step-call-number, tests-stopped, step-inv}
 use Rattle.calls.proofs.ActLaws.{lent-after, act-step-refused, seen-at, act-step, step-number-zero, step-valid}
-use Rattle.fence.specs.Fence.{Left}
+use Rattle.fence.specs.Fence.{Same, Left}
 use Rattle.fence.specs.Rows.{Fit, AlikeMachines, LeftMachine, answer-to, next, record-left, after-row, AllCalm, NoneDropped, SameRow}
 use Rattle.fence.proofs.OneLaws.{left-none, same-sr, same-mode, user-too, same-event, same-clocks, alike-next, same-step-vector}
 use Rattle.fence.proofs.AcceptLaws.{number-of, one, record-of-it, refused-answer, accepted-call, event-told, room-free, plain-told, plain-next}
 use Rattle.fence.proofs.RecordLaws.{left-next, same-record}
 
 -- ---- one call: what is kept of a machine
-pub window-stays : (w : Manner) (q : Request) (x : Machine) → next w q x .board ≡ x .board
+pub board-stays : (w : Manner) (q : Request) (x : Machine) → next w q x .board ≡ x .board
 unfolding act
-window-stays w q x = refl
+board-stays w q x = refl
 
 module _ (w : Manner) (q : Request) (x : Machine) (f : Fit x) where
   pub fit-next : Fit (next w q x)
@@ -63,14 +65,14 @@ module _ (w : Manner) (q : Request) (x : Machine) (f : Fit x) where
       (sym (event-told w q x z) ∙ e))
   left-by false h u e =
       subst (LeftMachine x) (sym (act-step-refused w (q .level) (q .vector) x (eqb-false (answer-to w q x .number) 0 h)))
-      (left-none (x .board) (x .slots) (x .memory))
+      (left-none (x .board .window) (x .slots) (x .memory))
 
   left-call : supervisor (sr-of (x .slots)) ≡ false → answer-to w q x .event ≡ NoEvent → LeftMachine x (next w q x)
   left-call u e = left-by (eqb (answer-to w q x .number) 0) refl u e
 
 -- ---- theorem 1
-module _ (board : Board) (s m t n o p : List ℕ) (a : Left board s m t n) where
-  left-then : Left board t n o p → Left board s m o p
+module _ (win : Window) (s m t n o p : List ℕ) (a : Left win s m t n) where
+  left-then : Left win t n o p → Left win s m o p
   left-then b =
       record {
         system =
@@ -89,14 +91,14 @@ module _ (board : Board) (s m t n o p : List ℕ) (a : Left board s m t n) where
 
 pub user-calls-leave : (w : Manner) (qs : List Request) (x : Machine) → Fit x → supervisor (sr-of (x .slots)) ≡ false → AllCalm w qs x
     → LeftMachine x (after-row w qs x)
-user-calls-leave w [] x f u c = left-none (x .board) (x .slots) (x .memory)
+user-calls-leave w [] x f u c = left-none (x .board .window) (x .slots) (x .memory)
 user-calls-leave w (q ∷ qs) x f u c =
     let y = next w q x in
     let z = after-row w qs y in
     let a = left-call w q x f u (c .0) in
-    let b = user-calls-leave w qs y (fit-next w q x f) (still-user (x .board) (x .slots) (x .memory) (y .slots) (y .memory) [] [] a u) (c .1) in
-    left-then (x .board) (x .slots) (x .memory) (y .slots) (y .memory) (z .slots) (z .memory) a
-    (subst (λ (board : Board). Left board (y .slots) (y .memory) (z .slots) (z .memory)) (window-stays w q x) b)
+    let b = user-calls-leave w qs y (fit-next w q x f) (still-user (x .board .window) (x .slots) (x .memory) (y .slots) (y .memory) [] [] a u) (c .1) in
+    left-then (x .board .window) (x .slots) (x .memory) (y .slots) (y .memory) (z .slots) (z .memory) a
+    (subst (λ (board : Board). Left (board .window) (y .slots) (y .memory) (z .slots) (z .memory)) (board-stays w q x) b)
 
 -- ---- refusals
 abbrev tests : Manner → Request → Machine → ℕ → ℕ
@@ -110,25 +112,29 @@ module _ (x y : Machine) (h : AlikeMachines x y) where
   same-tests : (w : Manner) (q : Request) (l : ℕ) → tests w q x l ≡ tests w q y l
   unfolding step-tests first-tests
   same-tests w q l =
-      let sr = same-sr (x .board) (x .slots) (y .slots) (x .memory) (y .memory) (h .states) in
-      let mode = same-mode (x .board) (x .slots) (y .slots) (x .memory) (y .memory) (h .states) in
-      cc (sr, mode, same-room w, h .states .memory .long, h .board, h .journal, h .mark)
+      let sr = same-sr (x .board) (y .board) (x .slots) (y .slots) (x .memory) (y .memory) (h .states) in
+      let mode = same-mode (x .board) (y .board) (x .slots) (y .slots) (x .memory) (y .memory) (h .states) in
+      cc (sr, mode, same-room w, h .states .memory .long, h .states .boards .window, h .states .boards .rom .long, h .journal, h .mark)
+
+-- two memories are the same either way round
+same-back : (win win₁ : Window) (start : ℕ) (m n : List ℕ) → win ≡ win₁ → Same win start m n → Same win₁ start n m
+same-back win win₁ start m n e h = record { long = sym (h .long); bytes = λ i l u. sym (h .bytes i (rw e l) (rw e u)) }
 
 -- two machines are alike either way round
 pub alike-back : (x y : Machine) → AlikeMachines x y → AlikeMachines y x
 alike-back x y h =
     let a = h .states in
     record {
-      board = sym (h .board);
       states =
           record {
-            user = user-too (x .board) (x .slots) (y .slots) (x .memory) (y .memory) a;
+            user = user-too (x .board) (y .board) (x .slots) (y .slots) (x .memory) (y .memory) a;
             slots = sym (a .slots);
-            memory =
+            boards =
                 record {
-                  long = sym (a .memory .long);
-                  bytes = λ i l u. sym (a .memory .bytes i (rw (h .board) l) (rw (h .board) u));
+                  window = sym (a .boards .window);
+                  rom = same-back (x .board .window) (y .board .window) RomStart (x .board .rom) (y .board .rom) (a .boards .window) (a .boards .rom);
                 };
+            memory = same-back (x .board .window) (y .board .window) 0 (x .memory) (y .memory) (a .boards .window) (a .memory);
           };
       journal = sym (h .journal);
       mark = sym (h .mark);
@@ -208,15 +214,7 @@ pub record SameCall (w : Manner) (q : Request) (x y : Machine) : Type 0 where
   pub written : record-left w q x ≡ record-left w q y
   pub alike : AlikeMachines (next w q x) (next w q y)
 
--- a machine with another window
-abbrev pub in-window : Board → Machine → Machine
-in-window board y = record { board = board; slots = y .slots; memory = y .memory; journal = y .journal; mark = y .mark }
-
--- the second machine with the window of the first
-module _ (w : Manner) (q : Request) (x z : Machine) where
-  abbrev y : Machine
-  y = in-window (x .board) z
-
+module _ (w : Manner) (q : Request) (x y : Machine) where
   module _ (h : AlikeMachines x y) (fx : Fit x) (fy : Fit y) (e : answer-to w q x .event ≡ NoEvent) (dx : answer-to w q x .dropped ≡ 0)
       (dy : answer-to w q y .dropped ≡ 0) where
     told-too : answer-to w q x .number ≡ answer-to w q y .number
@@ -226,26 +224,26 @@ module _ (w : Manner) (q : Request) (x z : Machine) where
     same-by true g =
         let k = eqb-true (answer-to w q x .number) 0 g in
         let l = sym told-too ∙ k in
-        let board = x .board in
+        let b = x .board in
+        let c = y .board in
         let s = x .slots in
         let t = y .slots in
         let m = x .memory in
         let n = y .memory in
         let a = h .states in
         let quiet = sym (event-told w q x k) ∙ e in
-        let quiet-too = same-event board s t m n a (q .level) (q .vector) quiet in
-        let clocks = same-clocks board s t m n a (q .level) (q .vector) quiet in
+        let quiet-too = same-event b c s t m n a (q .level) (q .vector) quiet in
+        let clocks = same-clocks b c s t m n a (q .level) (q .vector) quiet in
         let vx = step-valid w (q .level) (q .vector) x fx k in
         let vy = step-valid w (q .level) (q .vector) y fy l in
-        let r = same-record board s t m n vx vy a (q .level) (q .vector) quiet in
+        let r = same-record b c s t m n vx vy a (q .level) (q .vector) quiet in
         record {
           answer = cc (plain-told w q x k dx, plain-told w q y l dy, quiet, quiet-too, clocks, r, h .mark);
           written = record-is w q x fx k dx ∙ r ∙ sym (record-is w q y fy l dy);
           alike =
               subst₂ AlikeMachines (sym (plain-next w q x k dx)) (sym (plain-next w q y l dy))
               (record {
-                board = refl;
-                states = alike-next board s t m n a (q .level) (q .vector) quiet;
+                states = alike-next b c s t m n a (q .level) (q .vector) quiet;
                 journal =
                     length-written (x .journal) (x .mark) (record-of-it w q x) (roomy w q x fx k dx)
                     ∙ h .journal
@@ -265,10 +263,7 @@ module _ (w : Manner) (q : Request) (x z : Machine) where
 
 pub same-call : (w : Manner) (q : Request) (x y : Machine) → AlikeMachines x y → Fit x → Fit y → answer-to w q x .event ≡ NoEvent
     → answer-to w q x .dropped ≡ 0 → answer-to w q y .dropped ≡ 0 → SameCall w q x y
-same-call w q x y h fx fy e dx dy =
-    let g : in-window (x .board) y ≡ y = ap (λ (board : Board). in-window board y) (h .board) in
-    subst (λ (z : Machine). AlikeMachines x z → Fit z → answer-to w q z .dropped ≡ 0 → SameCall w q x z) g
-    (λ a f d. same-by w q x y a fx f e dx d (eqb (answer-to w q x .number) 0) refl) h fy dy
+same-call w q x y h fx fy e dx dy = same-by w q x y h fx fy e dx dy (eqb (answer-to w q x .number) 0) refl
 
 -- ---- theorem 2
 pub alike-calls : (w : Manner) (qs : List Request) (x y : Machine) → AlikeMachines x y → Fit x → Fit y → AllCalm w qs x
@@ -294,12 +289,10 @@ same-vector w q x y h dx dy = go (eqb (answer-to w q x .number) 0) refl
     go true c p r =
         let k = eqb-true (answer-to w q x .number) 0 c in
         let l = sym (same-told w q x y h dx dy) ∙ k in
-        let g : one w q y .event ≡ one-step (x .board) (y .slots) (y .memory) (q .level) (q .vector) .event =
-        ap (λ (board : Board). one-step board (y .slots) (y .memory) (q .level) (q .vector) .event) (sym (h .board)) in
         event-told w q x k
-        ∙ same-step-vector (x .board) (x .slots) (y .slots) (x .memory) (y .memory) (h .states) (q .level) (q .vector)
-        (λ e. p (event-told w q x k ∙ e)) (λ e. r (event-told w q y l ∙ g ∙ e))
-        ∙ sym g ∙ sym (event-told w q y l)
+        ∙ same-step-vector (x .board) (y .board) (x .slots) (y .slots) (x .memory) (y .memory) (h .states) (q .level) (q .vector)
+        (λ e. p (event-told w q x k ∙ e)) (λ e. r (event-told w q y l ∙ e))
+        ∙ sym (event-told w q y l)
     go false c p r =
         let k = eqb-false (answer-to w q x .number) 0 c in
         let l : answer-to w q y .number ≡ 0 → ⊥ = λ z. k (same-told w q x y h dx dy ∙ z) in

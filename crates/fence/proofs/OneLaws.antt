@@ -1,7 +1,7 @@
--- OneLaws.antt - the theorems of K7 for one step.
+-- OneLaws.antt - the theorems of K7 for one step, with the ROM of K10.
 -- left-after: from user state a step that takes no exception leaves T, S, mask, SSP and all outside the window; same-step-vector: machines that
 -- are alike take the same exception first, unless one halts; same-event, same-clocks, alike-next: what is the same of a step that takes none.
--- No instruction is looked at: `execute` stays shut.  Uses: bits, flags, bus, plan, bank, exception, execute, step.  Source: [K7].
+-- No instruction is looked at: `execute` stays shut.  Uses: bits, flags, bus, plan, bank, exception, execute, step.  Source: [K7], [K10].
 use Prim.Native.Nat.{ℕ, _%_, _/_, _<_, _≤_, _^_}
 use native.Mathlib.Omega.{arith}
 use mathlib.Core.Path.{_≡_, refl, sym, ap, _∙_, subst, subst₂}
@@ -13,8 +13,8 @@ use lib.Dec.{eqb}
 use Rattle.codes.specs.Codes.{Ssp, Pc, Sr, Mode, Usp, Trace, Supervisor, Mask, NoEvent, HaltEvent}
 use Rattle.flags.specs.Flags.{with-ccr}
 use Rattle.bus.specs.declared.Flow.{Flow}
-use Rattle.bus.specs.Bus.{Board}
-use Rattle.bus.specs.Bus.{View, seen-by, next-word}
+use Rattle.bus.specs.declared.Window.{Window}
+use Rattle.bus.specs.Bus.{View, Board, seen-by, next-word}
 use Rattle.plan.specs.declared.Plan.{Plan}
 use Rattle.bank.specs.Bank.{ssp-of, pc-of, sr-of, mode-of, supervisor, long, bank, usp-after, ssp-after, sr-after, settle}
 use Rattle.exception.specs.Exceptions.{Stepped, fresh}
@@ -50,11 +50,11 @@ kept-system a b c e =
     }
 
 -- nothing changed
-pub left-none : (board : Board) (s m : List ℕ) → Left board s m s m
-left-none board s m = record { system = record { trace = refl; super = refl; mask = refl }; ssp = refl; long = refl; outside = λ a out. refl }
+pub left-none : (win : Window) (s m : List ℕ) → Left win s m s m
+left-none win s m = record { system = record { trace = refl; super = refl; mask = refl }; ssp = refl; long = refl; outside = λ a out. refl }
 
 -- ---- what it leaves of memory
-attempt-out : (board : Board) (m : List ℕ) (j : ℕ) (out : board .lo ≤ j → j < board .hi → ⊥) (r : List ℕ) (f : Flow)
+attempt-out : (board : Board) (m : List ℕ) (j : ℕ) (out : board .window .lo ≤ j → j < board .window .hi → ⊥) (r : List ℕ) (f : Flow)
     → eqb (attempt r (seen-by false board m) f .t .p .flow .bad) 0 ≡ true
     → getD (written-by m (attempt r (seen-by false board m) f .r) (attempt r (seen-by false board m) f .t .p)) j 0 ≡ getD m j 0
 unfolding attempt
@@ -68,7 +68,7 @@ module _ (board : Board) (s m : List ℕ) (u : supervisor (sr-of s) ≡ false) w
   user-view : sight board s m ≡ seen-by false board m
   user-view = ap (λ (b : Bool). seen-by b board m) u
 
-  tried-out : (j : ℕ) (out : board .lo ≤ j → j < board .hi → ⊥) → eqb (tried board s m .t .p .flow .bad) 0 ≡ true
+  tried-out : (j : ℕ) (out : board .window .lo ≤ j → j < board .window .hi → ⊥) → eqb (tried board s m .t .p .flow .bad) 0 ≡ true
       → getD (written-by m (tried board s m .r) (tried board s m .t .p)) j 0 ≡ getD m j 0
   tried-out j out h =
       let f = fresh (pc-of s) (sr-of s) in
@@ -80,7 +80,7 @@ module _ (board : Board) (s m : List ℕ) (u : supervisor (sr-of s) ≡ false) w
 module _ (board : Board) (s m : List ℕ) (level vector : ℕ) (u : supervisor (sr-of s) ≡ false) (fits : ssp-of s < 2 ^ 32)
     (same : length (one-step board s m level vector .m) ≡ length m) where
   abbrev LeftAfter : Stepped → Type 0
-  LeftAfter t = length (t .m) ≡ length m → Left board s m (t .s) (t .m)
+  LeftAfter t = length (t .m) ≡ length m → Left (board .window) s m (t .s) (t .m)
 
   left-works : eqb (tried board s m .t .p .flow .bad) 0 ≡ true
       → LeftAfter (still (settle s (tried board s m .r) (tried board s m .t .p)) (written-by m (tried board s m .r) (tried board s m .t .p)))
@@ -96,15 +96,15 @@ module _ (board : Board) (s m : List ℕ) (level vector : ℕ) (u : supervisor (
       }
 
   left-by : Quiet board s m level → LeftAfter (one-step board s m level vector)
-  left-by (stands h k) = subst LeftAfter (sym (step-stands board s m level vector h k)) (λ l. left-none board s m)
+  left-by (stands h k) = subst LeftAfter (sym (step-stands board s m level vector h k)) (λ l. left-none (board .window) s m)
   left-by (works h k b c) = subst LeftAfter (sym (works-is board s m level vector h k b c)) (left-works b)
 
   pub left-after : one-step board s m level vector .event ≡ NoEvent
-      → Left board s m (one-step board s m level vector .s) (one-step board s m level vector .m)
+      → Left (board .window) s m (one-step board s m level vector .s) (one-step board s m level vector .m)
   left-after e = left-by (quiet-of board s m level vector (names-none board s m level vector e)) same
 
 -- ---- theorem 2, one step
-module _ (board : Board) (s t m n : List ℕ) (h : Alike board s t m n) where
+module _ (b c : Board) (s t m n : List ℕ) (h : Alike b c s t m n) where
   pub slot : (i : ℕ) → (i ≡ Ssp → ⊥) → getD s i 0 ≡ getD t i 0
   slot i k = sym (getD-set-other s Ssp i 0 0 k) ∙ ap (λ (l : List ℕ). getD l i 0) (h .slots) ∙ getD-set-other t Ssp i 0 0 k
 
@@ -147,42 +147,42 @@ module _ (board : Board) (s t m n : List ℕ) (h : Alike board s t m n) where
         slot 14 (λ e. omega (arith, e)),
       )
 
-  same-sight : sight board s m ≡ sight board t n
-  same-sight = user-view board s m (h .user) ∙ same-view board m n (h .memory) ∙ sym (user-view board t n user-too)
+  same-sight : sight b s m ≡ sight c t n
+  same-sight = user-view b s m (h .user) ∙ same-view b c m n (h .boards) (h .memory) ∙ sym (user-view c t n user-too)
 
   -- an instruction does the same up to its write: operation word, registers, plan with PC, SR, trap and fault, clocks
-  same-tried : tried board s m ≡ tried board t n
+  same-tried : tried b s m ≡ tried c t n
   same-tried = cc (same-bank, same-sight, same-pc, same-sr)
 
   module _ (level vector : ℕ) where
-    same-name : step-event board s m level vector ≡ step-event board t n level vector
+    same-name : step-event b s m level vector ≡ step-event c t n level vector
     same-name = cc (same-tried, same-sr, same-mode)
 
     -- the same exception, unless one of the two halts
-    pub same-step-vector : (one-step board s m level vector .event ≡ HaltEvent → ⊥) → (one-step board t n level vector .event ≡ HaltEvent → ⊥)
-        → one-step board s m level vector .event ≡ one-step board t n level vector .event
-    same-step-vector p q = joined (step-names board s m level vector) (step-names board t n level vector)
+    pub same-step-vector : (one-step b s m level vector .event ≡ HaltEvent → ⊥) → (one-step c t n level vector .event ≡ HaltEvent → ⊥)
+        → one-step b s m level vector .event ≡ one-step c t n level vector .event
+    same-step-vector p q = joined (step-names b s m level vector) (step-names c t n level vector)
       where
-        joined : Or (step-event board s m level vector) (one-step board s m level vector .event)
-            → Or (step-event board t n level vector) (one-step board t n level vector .event)
-            → one-step board s m level vector .event ≡ one-step board t n level vector .event
-        joined (this a) (this b) = a ∙ same-name ∙ sym b
-        joined (halts a) y = absurd (p a)
-        joined (this a) (halts b) = absurd (q b)
+        joined : Or (step-event b s m level vector) (one-step b s m level vector .event)
+            → Or (step-event c t n level vector) (one-step c t n level vector .event)
+            → one-step b s m level vector .event ≡ one-step c t n level vector .event
+        joined (this x) (this y) = x ∙ same-name ∙ sym y
+        joined (halts x) y = absurd (p x)
+        joined (this x) (halts y) = absurd (q y)
 
-    module _ (e : one-step board s m level vector .event ≡ NoEvent) where
-      quiet : Quiet board s m level
-      quiet = quiet-of board s m level vector (names-none board s m level vector e)
+    module _ (e : one-step b s m level vector .event ≡ NoEvent) where
+      quiet : Quiet b s m level
+      quiet = quiet-of b s m level vector (names-none b s m level vector e)
 
-      quiet-too : Quiet board t n level
-      quiet-too = quiet-of board t n level vector (sym same-name ∙ names-none board s m level vector e)
+      quiet-too : Quiet c t n level
+      quiet-too = quiet-of c t n level vector (sym same-name ∙ names-none b s m level vector e)
 
       -- the other takes no exception either
-      pub same-event : one-step board t n level vector .event ≡ NoEvent
-      same-event = quiet-event board t n level vector quiet-too
+      pub same-event : one-step c t n level vector .event ≡ NoEvent
+      same-event = quiet-event c t n level vector quiet-too
 
-      pub same-clocks : step-clocks board s m level vector ≡ step-clocks board t n level vector
-      same-clocks = cc (quiet-clocks board s m level vector quiet, quiet-clocks board t n level vector quiet-too, same-tried, same-mode)
+      pub same-clocks : step-clocks b s m level vector ≡ step-clocks c t n level vector
+      same-clocks = cc (quiet-clocks b s m level vector quiet, quiet-clocks c t n level vector quiet-too, same-tried, same-mode)
 
   settled : (r : List ℕ) (p : Plan) → set (settle s r p) Ssp 0 ≡ set (settle t r p) Ssp 0
   unfolding settle usp-after sr-after
@@ -193,30 +193,31 @@ module _ (board : Board) (s t m n : List ℕ) (h : Alike board s t m n) where
       ap (λ (x : ℕ). eqb x 1) (ap (λ (x : ℕ). x / Supervisor % 2) (settled-sr s r p (h .user)) ∙ kept-super (sr-of s) (p .flow .sr)) ∙ h .user
 
   abbrev AlikeAfter : Stepped → Stepped → Type 0
-  AlikeAfter a b = Alike board (a .s) (b .s) (a .m) (b .m)
+  AlikeAfter x y = Alike b c (x .s) (y .s) (x .m) (y .m)
 
   abbrev worked : List ℕ → List ℕ → Attempt → Stepped
   worked s m a = still (settle s (a .r) (a .t .p)) (written-by m (a .r) (a .t .p))
 
-  alike-worked : (a b : Attempt) → a ≡ b → AlikeAfter (worked s m a) (worked t n b)
-  alike-worked a b e =
-      subst (λ (b : Attempt). AlikeAfter (worked s m a) (worked t n b)) e
+  alike-worked : (a y : Attempt) → a ≡ y → AlikeAfter (worked s m a) (worked t n y)
+  alike-worked a y e =
+      subst (λ (y : Attempt). AlikeAfter (worked s m a) (worked t n y)) e
       (record {
         user = settled-user (a .r) (a .t .p);
         slots = settled (a .r) (a .t .p);
-        memory = same-written board (a .r) (a .t .p) m n (h .memory);
+        boards = h .boards;
+        memory = same-written (b .window) 0 (a .r) (a .t .p) m n (h .memory);
       })
 
   module _ (level vector : ℕ) where
-    alike-by : Quiet board s m level → Quiet board t n level → AlikeAfter (one-step board s m level vector) (one-step board t n level vector)
-    alike-by (stands a b) (stands c d) =
-        subst₂ AlikeAfter (sym (step-stands board s m level vector a b)) (sym (step-stands board t n level vector c d)) h
-    alike-by (stands a b) (works c d e f) = absurd (let z : _≡_ {A = ℕ} 0 1 = cc (same-mode, b, d) in omega (arith, z))
-    alike-by (works a b c d) (stands e f) = absurd (let z : _≡_ {A = ℕ} 0 1 = cc (same-mode, b, f) in omega (arith, z))
-    alike-by (works a b c d) (works e f g i) =
-        subst₂ AlikeAfter (sym (works-is board s m level vector a b c d)) (sym (works-is board t n level vector e f g i))
-        (alike-worked (tried board s m) (tried board t n) same-tried)
+    alike-by : Quiet b s m level → Quiet c t n level → AlikeAfter (one-step b s m level vector) (one-step c t n level vector)
+    alike-by (stands o k) (stands p l) =
+        subst₂ AlikeAfter (sym (step-stands b s m level vector o k)) (sym (step-stands c t n level vector p l)) h
+    alike-by (stands o k) (works p l e f) = absurd (let z : _≡_ {A = ℕ} 0 1 = cc (same-mode, k, l) in omega (arith, z))
+    alike-by (works o k d f) (stands p l) = absurd (let z : _≡_ {A = ℕ} 0 1 = cc (same-mode, k, l) in omega (arith, z))
+    alike-by (works o k d f) (works p l g i) =
+        subst₂ AlikeAfter (sym (works-is b s m level vector o k d f)) (sym (works-is c t n level vector p l g i))
+        (alike-worked (tried b s m) (tried c t n) same-tried)
 
     -- and after the step the two are alike again
-    pub alike-next : one-step board s m level vector .event ≡ NoEvent → AlikeAfter (one-step board s m level vector) (one-step board t n level vector)
+    pub alike-next : one-step b s m level vector .event ≡ NoEvent → AlikeAfter (one-step b s m level vector) (one-step c t n level vector)
     alike-next e = alike-by (quiet level vector e) (quiet-too level vector e)

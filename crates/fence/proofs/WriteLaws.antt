@@ -1,10 +1,10 @@
 -- WriteLaws.antt - the same write keeps two memories the same in the window; a write for which user state has room leaves what lies outside.
 -- same-written; plan-out: the theorems. MOVEM to -(An) goes by 003's own order, in which its room is asked (block-put-is-down of movem).
--- Uses: bits, bus, plan, movem, step.  Source: [K7].
+-- Uses: bits, bus, plan, movem, step.  Source: [K7], [K10].
 use Prim.Native.Nat.{ℕ, zero, suc, _+_, _-_, _%_, _/_, _<_, _≤_}
 use native.Mathlib.Omega.{arith}
 use mathlib.Core.Path.{_≡_, refl, ap, _∙_}
-use mathlib.Core.Bool.{Bool, true, false}
+use mathlib.Core.Bool.{Bool, true, false, _||_}
 use mathlib.Core.List.{List}
 use lib.ListN.{length, getD, set, length-set}
 use lib.Seq.{set-out, getD-set-same, getD-set-other}
@@ -14,8 +14,8 @@ use Rattle.codes.specs.Codes.{NoWrite, BusError, AddressError, DataWrite, Downw
 use Rattle.bits.specs.Bits.{pick, iter, plus, by-size}
 use Rattle.bits.proofs.BitsLaws.{and-left}
 use Rattle.bus.specs.declared.Flow.{Flow}
-use Rattle.bus.specs.Bus.{Board}
-use Rattle.bus.specs.Bus.{View, pins, failed, read-byte, read-word, read-long, read-sized, room, allowed, all-of, seen-by}
+use Rattle.bus.specs.declared.Window.{Window}
+use Rattle.bus.specs.Bus.{View, Board, pins, failed, read-byte, read-word, read-long, read-sized, for-writing, room, allowed, all-of, seen-by}
 use Rattle.bus.specs.Bus.{put-byte, put-word, put-long, put-sized}
 use Rattle.plan.specs.declared.Plan.{Plan}
 use Rattle.movem.specs.declared.Way.{Way}
@@ -30,7 +30,7 @@ use Rattle.fence.proofs.ViewLaws.{low-end, high-end}
 use Rattle.fence.proofs.QuietLaws.{written-by}
 
 -- ---- the same write
-module _ (board : Board) where
+module _ (win : Window) (start : ℕ) where
   set-same : (m n : List ℕ) (i x a : ℕ) → length m ≡ length n → (b c : Bool) → eqb a i ≡ b → ltb i (length m) ≡ c
       → getD m a 0 ≡ getD n a 0 → getD (set m i x) a 0 ≡ getD (set n i x) a 0
   set-same m n i x a l true true e d h =
@@ -39,27 +39,27 @@ module _ (board : Board) where
       let t = ltb-false i (length m) d in cc (h, set-out m i x t, set-out n i x (omega (arith, t, l)))
   set-same m n i x a l false c e d h = let t = eqb-false a i e in cc (h, getD-set-other m i a x 0 t, getD-set-other n i a x 0 t)
 
-  same-set : (m n : List ℕ) (i x : ℕ) → Same board m n → Same board (set m i x) (set n i x)
+  same-set : (m n : List ℕ) (i x : ℕ) → Same win start m n → Same win start (set m i x) (set n i x)
   same-set m n i x h =
       record {
         long = cc (length-set m i x, length-set n i x, h .long);
         bytes = λ a p q. set-same m n i x a (h .long) (eqb a i) (ltb i (length m)) refl refl (h .bytes a p q);
       }
 
-  same-word : (m n : List ℕ) (a v : ℕ) → Same board m n → Same board (put-word m a v) (put-word n a v)
+  same-word : (m n : List ℕ) (a v : ℕ) → Same win start m n → Same win start (put-word m a v) (put-word n a v)
   unfolding put-word
   same-word m n a v h =
       same-set (put-byte m a (v / 256)) (put-byte n a (v / 256)) (pins (plus a 1)) (v % 256) (same-set m n (pins a) (v / 256 % 256) h)
 
-  same-long : (m n : List ℕ) (a v : ℕ) → Same board m n → Same board (put-long m a v) (put-long n a v)
+  same-long : (m n : List ℕ) (a v : ℕ) → Same win start m n → Same win start (put-long m a v) (put-long n a v)
   unfolding put-long
   same-long m n a v h = same-word (put-word m a (v / 65536)) (put-word n a (v / 65536)) (plus a 2) v (same-word m n a (v / 65536) h)
 
-  same-pick : (b : Bool) (m n p q : List ℕ) → Same board m n → Same board p q → Same board (pick b m p) (pick b n q)
+  same-pick : (b : Bool) (m n p q : List ℕ) → Same win start m n → Same win start p q → Same win start (pick b m p) (pick b n q)
   same-pick true m n p q h k = h
   same-pick false m n p q h k = k
 
-  same-sized : (m n : List ℕ) (a z v : ℕ) → Same board m n → Same board (put-sized m a z v) (put-sized n a z v)
+  same-sized : (m n : List ℕ) (a z v : ℕ) → Same win start m n → Same win start (put-sized m a z v) (put-sized n a z v)
   unfolding put-sized by-size
   same-sized m n a z v h =
       same-pick (eqb z 0) (put-byte m a v) (put-byte n a v) (pick (eqb z 1) (put-word m a v) (put-long m a v))
@@ -68,23 +68,23 @@ module _ (board : Board) where
       (same-pick (eqb z 1) (put-word m a v) (put-word n a v) (put-long m a v) (put-long n a v) (same-word m n a v h) (same-long m n a v h))
 
   module _ (r : List ℕ) (p : Plan) where
-    same-part : (y : Way) (d : Spot) (m n : List ℕ) → Same board m n → Same board (put-part r p y d m) (put-part r p y d n)
+    same-part : (y : Way) (d : Spot) (m n : List ℕ) → Same win start m n → Same win start (put-part r p y d m) (put-part r p y d n)
     unfolding put-part
     same-part y d m n h =
         let v = part-of r p (d .index) in
         same-pick (listed d) (put-sized m (d .at) (y .size) v) (put-sized n (d .at) (y .size) v) m n (same-sized m n (d .at) (y .size) v h) h
 
-    same-turns : (y : Way) (k : ℕ) (d : Spot) (m n : List ℕ) → Same board m n
-        → Same board (iter (put-one r p y) k (record { held = m; spot = d }) .held) (iter (put-one r p y) k (record { held = n; spot = d }) .held)
+    same-turns : (y : Way) (k : ℕ) (d : Spot) (m n : List ℕ) → Same win start m n
+        → Same win start (iter (put-one r p y) k (record { held = m; spot = d }) .held) (iter (put-one r p y) k (record { held = n; spot = d }) .held)
     unfolding iter put-one
     same-turns y zero d m n h = h
     same-turns y (suc k) d m n h = same-turns y k (next-spot y d (p .flow)) (put-part r p y d m) (put-part r p y d n) (same-part y d m n h)
 
-    same-block : (m n : List ℕ) → Same board m n → Same board (block-put m r p) (block-put n r p)
+    same-block : (m n : List ℕ) → Same win start m n → Same win start (block-put m r p) (block-put n r p)
     unfolding block-put
     same-block m n h = same-turns (put-way p) 16 (first-spot (put-way p) (p .flow)) m n h
 
-    pub same-written : (m n : List ℕ) → Same board m n → Same board (written-by m r p) (written-by n r p)
+    pub same-written : (m n : List ℕ) → Same win start m n → Same win start (written-by m r p) (written-by n r p)
     unfolding commit
     same-written m n h =
         same-pick (eqb (p .write) NoWrite) m n (commit m r p) (commit n r p) h
@@ -127,9 +127,9 @@ long-roomy v a k f h = (word-roomy v (plus a 2) k (read-word v a k f .flow) h .0
 module _ (v : View) (a z : ℕ) (f : Flow) where
   back-by : (b c : Bool) → eqb z 0 ≡ b → eqb z 1 ≡ c → eqb (room v a z f .bad) 0 ≡ true → eqb (f .bad) 0 ≡ true
   unfolding room read-sized by-size
-  back-by true c e d h = let q = byte-roomy v a DataWrite f cc in q .0
-  back-by false true e d h = let q = word-roomy v a DataWrite f cc in q .0
-  back-by false false e d h = let q = long-roomy v a DataWrite f cc in word-roomy v a DataWrite f (q .0) .0
+  back-by true c e d h = let q = byte-roomy (for-writing v) a DataWrite f cc in q .0
+  back-by false true e d h = let q = word-roomy (for-writing v) a DataWrite f cc in q .0
+  back-by false false e d h = let q = long-roomy (for-writing v) a DataWrite f cc in word-roomy (for-writing v) a DataWrite f (q .0) .0
 
   room-back : eqb (room v a z f .bad) 0 ≡ true → eqb (f .bad) 0 ≡ true
   room-back h = back-by (eqb z 0) (eqb z 1) refl refl h
@@ -139,49 +139,49 @@ after-even : (a : ℕ) → eqb (pins a % 2) 1 ≡ false → pins (plus a 1) ≡ 
 after-even a h = omega (arith, eqb-false (pins a % 2) 1 h)
 
 -- ---- a write into the window leaves the rest: j is a place outside it
-module _ (board : Board) (m : List ℕ) (j : ℕ) (out : board .lo ≤ j → j < board .hi → ⊥) where
-  out-of : (i : ℕ) → board .lo ≤ i → i < board .hi → j ≡ i → ⊥
+module _ (board : Board) (m : List ℕ) (j : ℕ) (out : board .window .lo ≤ j → j < board .window .hi → ⊥) where
+  out-of : (i : ℕ) → board .window .lo ≤ i → i < board .window .hi → j ≡ i → ⊥
   out-of i l u e = out (omega (arith, l, e)) (omega (arith, u, e))
 
   abbrev v : View
   v = seen-by false board m
 
-  byte-allowed : (x : ℕ) → v .byte-ok x ≡ true → allowed false board x 1 ≡ true
+  byte-allowed : (x : ℕ) → v .byte-free x ≡ true → allowed false (board .window) x 1 ≡ true
   unfolding seen-by
-  byte-allowed x t = and-left (allowed false board x 1) (all-of m .byte-ok x) t
+  byte-allowed x t = and-left (allowed false (board .window) x 1) (all-of m .byte-free x || false) t
 
-  word-allowed : (x : ℕ) → v .word-ok x ≡ true → allowed false board x 2 ≡ true
+  word-allowed : (x : ℕ) → v .word-free x ≡ true → allowed false (board .window) x 2 ≡ true
   unfolding seen-by
-  word-allowed x t = and-left (allowed false board x 2) (all-of m .word-ok x) t
+  word-allowed x t = and-left (allowed false (board .window) x 2) (all-of m .word-free x || false) t
 
-  byte-out : (n : List ℕ) (a x : ℕ) → v .byte-ok (pins a) ≡ true → getD (put-byte n a x) j 0 ≡ getD n j 0
+  byte-out : (n : List ℕ) (a x : ℕ) → v .byte-free (pins a) ≡ true → getD (put-byte n a x) j 0 ≡ getD n j 0
   byte-out n a x t =
       let k = byte-allowed (pins a) t in
-      getD-set-other n (pins a) j (x % 256) 0 (out-of (pins a) (low-end board (pins a) 1 k) (omega (arith, high-end board (pins a) 1 k)))
+      getD-set-other n (pins a) j (x % 256) 0 (out-of (pins a) (low-end (board .window) (pins a) 1 k) (omega (arith, high-end (board .window) (pins a) 1 k)))
 
-  word-out : (n : List ℕ) (a x : ℕ) → eqb (pins a % 2) 1 ≡ false → v .word-ok (pins a) ≡ true → getD (put-word n a x) j 0 ≡ getD n j 0
+  word-out : (n : List ℕ) (a x : ℕ) → eqb (pins a % 2) 1 ≡ false → v .word-free (pins a) ≡ true → getD (put-word n a x) j 0 ≡ getD n j 0
   unfolding put-word
   word-out n a x e t =
       let k = word-allowed (pins a) t in
-      let l = low-end board (pins a) 2 k in
-      let u = high-end board (pins a) 2 k in
+      let l = low-end (board .window) (pins a) 2 k in
+      let u = high-end (board .window) (pins a) 2 k in
       getD-set-other (put-byte n a (x / 256)) (pins (plus a 1)) j (x % 256) 0
       (λ h. out-of (pins a + 1) (omega (arith, l)) (omega (arith, u)) (h ∙ after-even a e))
       ∙ getD-set-other n (pins a) j (x / 256 % 256) 0 (out-of (pins a) l (omega (arith, u)))
 
   module _ (n : List ℕ) (a : ℕ) (f : Flow) (x : ℕ) where
-    long-out : eqb (read-long v a DataWrite f .flow .bad) 0 ≡ true → getD (put-long n a x) j 0 ≡ getD n j 0
+    long-out : eqb (read-long (for-writing v) a DataWrite f .flow .bad) 0 ≡ true → getD (put-long n a x) j 0 ≡ getD n j 0
     unfolding put-long
     long-out h =
-        let s = long-roomy v a DataWrite f h in
-        let r = word-roomy v (plus a 2) DataWrite (read-word v a DataWrite f .flow) (s .1) in
-        let q = word-roomy v a DataWrite f (s .0) in
+        let s = long-roomy (for-writing v) a DataWrite f h in
+        let r = word-roomy (for-writing v) (plus a 2) DataWrite (read-word (for-writing v) a DataWrite f .flow) (s .1) in
+        let q = word-roomy (for-writing v) a DataWrite f (s .0) in
         word-out (put-word n a (x / 65536)) (plus a 2) x (r .1) (r .2) ∙ word-out n a (x / 65536) (q .1) (q .2)
 
     sized-by : (z : ℕ) (b c : Bool) → eqb z 0 ≡ b → eqb z 1 ≡ c → eqb (room v a z f .bad) 0 ≡ true → getD (put-sized n a z x) j 0 ≡ getD n j 0
     unfolding room read-sized put-sized by-size
-    sized-by z true c e d h = let q = byte-roomy v a DataWrite f cc in cc (byte-out n a x (q .1), e)
-    sized-by z false true e d h = let q = word-roomy v a DataWrite f cc in cc (word-out n a x (q .1) (q .2), e, d)
+    sized-by z true c e d h = let q = byte-roomy (for-writing v) a DataWrite f cc in cc (byte-out n a x (q .1), e)
+    sized-by z false true e d h = let q = word-roomy (for-writing v) a DataWrite f cc in cc (word-out n a x (q .1) (q .2), e, d)
     sized-by z false false e d h = cc (long-out cc, e, d)
 
     sized-out : (z : ℕ) → eqb (room v a z f .bad) 0 ≡ true → getD (put-sized n a z x) j 0 ≡ getD n j 0

@@ -266,17 +266,20 @@ pub extern "C" fn ibz_take_back(
 
 // ---- the part of memory or of ROM that holds an address and a length: no state is lent, and no block is asked for
 
+// An exported function can not return a reference: the part is written where the caller says, and the number is returned.
 #[no_mangle]
 pub extern "C" fn ibz_part<'a, 'b>(
     memory: &'a [u8],
     rom: &'a [u8],
     address: u64,
     length: u64,
-    number: &'b mut u32,
-) -> &'a [u8]
-    ensures { λ r. ⌜ PartPromise (memory .entry) (rom .entry) address length (now (number .exit)) r ⌝ }
+    found: &'b mut &'a [u8],
+) -> u32
+    ensures { λ r. ⌜ PartPromise (memory .entry) (rom .entry) address length r (now (found .exit)) ⌝ }
 {
-    part::part(memory, rom, address, length, number)
+    let mut number: u32 = 0;
+    *found = part::part(memory, rom, address, length, &mut number);
+    number
 }
 
 // ---- form 2, for posting: no state is lent, and no block is asked for

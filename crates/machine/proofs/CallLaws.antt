@@ -23,32 +23,35 @@ use Rattle.calls.specs.declared.StepAnswer.{StepAnswer}
 use Rattle.calls.specs.declared.UndoAnswer.{UndoAnswer}
 use Rattle.calls.proofs.ValidLaws.{fits-inv}
 use Rattle.calls.proofs.JournalLaws.{room-inside, room-length}
-use Rattle.calls.proofs.RefusalLaws.{tests-inv, tests-passed, tests-stopped, step-inv}
+use Rattle.calls.proofs.RefusalLaws.{pick-zero, tests-inv, tests-passed, tests-stopped, step-inv}
 use Rattle.calls.specs.Promises.{StepPromise, UndoPromise}
-use Rattle.calls.specs.Calls.{memory-fits, state-fits, reset-slots, refused-slots, reset-call, reset-answer, no-room, torn-way, step-tests}
+use Rattle.calls.specs.Calls.{memory-fits, state-fits, reset-slots, refused-slots, reset-number, reset-call, reset-answer, no-room, torn-way, step-tests}
 use Rattle.calls.specs.Calls.{step-number, step-taken, step-with-room, step-call, undo-number, undo-answer, undo-call}
 
 -- reset
-module _ (m : List ℕ) (b : Bool) (e : b ≡ memory-fits m) where
-  pub reset-done : (n : List ℕ) → b ≡ true → n ≡ reset-slots m → n ≡ reset-call m
+module _ (m rom : List ℕ) (x : ℕ) (e : x ≡ reset-number m rom) where
+  pub reset-done : (n : List ℕ) → eqb x 0 ≡ true → n ≡ reset-slots m → n ≡ reset-call m rom
   unfolding reset-call
   reset-done n t d = cc
 
-  pub reset-done-answer : b ≡ true → record { number = 0; lo = 0; hi = length m } ≡ reset-answer m
+  pub reset-done-answer : eqb x 0 ≡ true → record { number = 0; lo = 0; hi = length m } ≡ reset-answer m rom
   unfolding reset-answer
-  reset-done-answer t = let f : memory-fits m ≡ true = sym e ∙ t in rw f
+  reset-done-answer t = let z : reset-number m rom ≡ 0 = sym e ∙ eqb-true x 0 t in rw z
 
   -- a length that fits has 32 bits
-  pub reset-length : b ≡ true → length m < 2 ^ 32
-  reset-length t = let f = fits-inv m (sym e ∙ t) in omega (arith, f .2)
+  pub reset-length : eqb x 0 ≡ true → length m < 2 ^ 32
+  unfolding reset-number
+  reset-length t =
+      let f = pick-zero (not (memory-fits m)) 0 _ (sym e ∙ eqb-true x 0 t) in
+      let g = fits-inv m (not-false (memory-fits m) (f .0)) in omega (arith, g .2)
 
-  pub reset-misfit : (n : List ℕ) → b ≡ false → n ≡ refused-slots → n ≡ reset-call m
+  pub reset-misfit : (n : List ℕ) → eqb x 0 ≡ false → n ≡ refused-slots → n ≡ reset-call m rom
   unfolding reset-call
   reset-misfit n t d = cc
 
-  pub reset-misfit-answer : b ≡ false → record { number = 1; lo = 0; hi = 0 } ≡ reset-answer m
+  pub reset-misfit-answer : eqb x 0 ≡ false → record { number = x; lo = 0; hi = 0 } ≡ reset-answer m rom
   unfolding reset-answer
-  reset-misfit-answer t = let f : memory-fits m ≡ false = sym e ∙ t in rw f
+  reset-misfit-answer t = let z : eqb (reset-number m rom) 0 ≡ false = ap (λ (n : ℕ). eqb n 0) (sym e) ∙ t in rw (e, z)
 
 -- what making room tells of the way back
 room-tells : (len : ℕ) (j : List ℕ) (mark : ℕ) → no-room Dropping j mark ≡ false → make-room len j mark .a .number ≡ pick (torn-way Dropping len j mark) 8 0

@@ -63,7 +63,7 @@ fn step(
     memory: &mut [u8],
     journal: &mut [u8],
 ) -> Standing {
-    let answer = keeping::step_keeping(slots, win, memory, 0, 0, journal, s.mark);
+    let answer = keeping::step_keeping(slots, win, memory, &[], 0, 0, journal, s.mark);
     after_step(s, answer.number, answer.mark)
 }
 
@@ -74,7 +74,7 @@ fn undo(
     memory: &mut [u8],
     journal: &[u8],
 ) -> Standing {
-    let answer = machine::undo(slots, win, memory, journal, s.mark);
+    let answer = machine::undo(slots, win, memory, &[], journal, s.mark);
     after_undo(s, answer.number, answer.mark)
 }
 
@@ -123,7 +123,7 @@ fn with_journal(
 pub fn nine_lines(memory: &mut [u8; 65536]) {
     let mut slots = [0u32; SLOTS];
     let mut journal = [0u8; 4096];
-    let a = machine::reset(&mut slots, memory);
+    let a = machine::reset(&mut slots, memory, &[]);
     let win = Window { lo: a.lo, hi: a.hi };
     with_journal(&mut slots, win, memory, &mut journal);
 }

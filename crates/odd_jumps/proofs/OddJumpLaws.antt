@@ -189,7 +189,7 @@ module _ (j : Nine) (board : Board) (s m : List ℕ) (level vector : ℕ) (h : O
       let a =
       concluded-is s m (tried .r) (o .s) (tried .t) (tracing (sr-of s)) x c refl y refl (d (tracing (sr-of s)) (mode-of (o .s))) in
       clocks-instruction board s m level vector c (h .quiet) (eq-eqb (mode-of s) 0 (h .running))
-      (instruction-clocks-is board s s m (bank s) (tried .r) (fresh (pc-of s) (sr-of s)) (tried .t) c refl refl refl refl a)
+      (instruction-clocks-is board s s m (tried .r) (tried .t) c refl refl a)
 
   -- the frame can be written and vector 3 is even, or not
   abbrev n : List ℕ

@@ -8,7 +8,7 @@ ghost use lib.ListN.{length};
 ghost use Rattle.bank.specs.Bank.{supervisor};
 ghost use Rattle.bus.specs.Bus.{board-of, seen-by, view-of};
 ghost use Rattle.touch.specs.Touch.{LogOk, Noted};
-ghost use Rattle.step.specs.Steps.{plan-with-flow, checked, attempt, instruction, interrupt-sr, interrupt, one-step};
+ghost use Rattle.step.specs.Steps.{plan-with-flow, checked, attempt, begun, instruction, interrupt-sr, interrupt, one-step};
 ghost use Rattle.step.specs.Steps.{instruction-clocks, interrupt-clocks, step-clocks};
 use bus::Flow;
 use bus::Parts;
@@ -88,6 +88,17 @@ fn lent_attempt<'a>(
     attempt(r, &parts, f)
 }
 
+// The same from the slots, which become the registers that it leaves.
+fn begun<'a>(s: &mut [u32; SLOTS], win: Window, mem: &'a [u8], rom: &'a [u8]) -> Tried
+    ensures { λ t. ⌜ record { r = now (s .exit); t = t } ≡ begun (board-of win (now (rom .entry))) (now (s .entry)) (now (mem .entry)) ⌝ }
+    ensures { λ t. ⌜ t .clocks < 512 ⌝ }
+{
+    let sr = s[codes::SR];
+    let pc = s[codes::PC];
+    bank::bank(s);
+    lent_attempt(s, win, mem, rom, exception::fresh(pc, sr))
+}
+
 // One instruction. The slots before it are lent a second time, as they were.
 fn instruction(
     s: &mut [u32; SLOTS],
@@ -105,10 +116,7 @@ fn instruction(
     ensures { λ e. ⌜ e .clocks ≡ instruction-clocks (board-of win (now (rom .entry))) (now (s .entry)) (now (mem .entry)) ⌝ }
     ensures { λ e. ⌜ Noted (now (mem .entry)) (now (log .entry)) 0 70 (now (mem .exit)) (now (log .exit)) (e .n) ⌝ }
 {
-    let sr = s[codes::SR];
-    let pc = s[codes::PC];
-    bank::bank(s);
-    let t = lent_attempt(s, win, mem, rom, exception::fresh(pc, sr));
+    let t = begun(s, win, mem, rom);
     step::concluded(s, before, mem, log, t)
 }
 

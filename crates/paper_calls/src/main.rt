@@ -1,10 +1,12 @@
 // main.rt - the papers' examples that are run and compared: ADD.B, the halt of $4AFC with an odd SSP, the journal's 535 and 536 bytes,
-// budget 0, by the calls that keep all records; a full journal, in either manner; and the window, which a reset gives and calls refuse.
+// budget 0, by the calls that keep all records; a full journal, in either manner; the window, which a reset gives and calls refuse; and ROM.
 // Means: nothing; its stored output is the papers' text, worked out by hand.
-// Uses: codes, bus, keeping, machine, compare, io.  Source: [01 Set down and proved], [K5], [K7].
+// Uses: codes, bus, keeping, machine, compare, io.  Source: [01 Set down and proved], [K5], [K7], [K10].
 //
 // What a call leaves is held against what the papers say, and then, so that a comparison which forgets something is seen, against the same with
-// one slot or one byte altered, each of them in its turn: all of those must differ.
+// one slot or one byte altered, each of them in its turn: all of those must differ. Where an example speaks of no ROM it lends an empty one.
+mod roms;
+
 ghost use mathlib.Core.Path.{_≡_};
 ghost use Prim.Native.Nat.{_≤_, _<_};
 ghost use lib.ListN.{length};
@@ -130,7 +132,7 @@ fn add_byte() {
     let mut s = slots_with(127, 1, 1024, 512, 9984, 0);
     let mut m = memory_with(208, 1);
     let mut j = [0u8; 536];
-    let a = keeping::step_keeping(&mut s, ALL, &mut m, 0, 0, &mut j, 0);
+    let a = keeping::step_keeping(&mut s, ALL, &mut m, &[], 0, 0, &mut j, 0);
     show(b"ADD.B $7F + $01: number ", a.number);
     show(b", D0 ", s[0]);
     show(b", flags ", s[codes::SR] % codes::FLAG_VALUES);
@@ -152,7 +154,7 @@ fn odd_stack() {
     let mut s = slots_with(0, 0, 769, 512, 9984, 0);
     let mut m = memory_with(74, 252);
     let mut j = [0u8; 536];
-    let a = keeping::step_keeping(&mut s, ALL, &mut m, 0, 0, &mut j, 0);
+    let a = keeping::step_keeping(&mut s, ALL, &mut m, &[], 0, 0, &mut j, 0);
     show(b"$4AFC with SSP $301: number ", a.number);
     show(b", mode ", s[codes::MODE]);
     show_count(b", mark ", a.mark as u64);
@@ -167,7 +169,7 @@ fn journal_too_short() {
     let mut s = slots_with(0, 0, 1024, 512, 9984, 0);
     let mut m = memory_with(112, 1);
     let mut j = [0u8; 535];
-    let a = keeping::step_keeping(&mut s, ALL, &mut m, 0, 0, &mut j, 0);
+    let a = keeping::step_keeping(&mut s, ALL, &mut m, &[], 0, 0, &mut j, 0);
     show(b"535 journal bytes: number ", a.number);
     end_line();
     tell_slots(&s, slots_with(0, 0, 1024, 512, 9984, 0));
@@ -180,7 +182,7 @@ fn journal_room() {
     let mut s = slots_with(0, 0, 1024, 512, 9984, 0);
     let mut m = memory_with(112, 1);
     let mut j = [0u8; 536];
-    let a = keeping::step_keeping(&mut s, ALL, &mut m, 0, 0, &mut j, 0);
+    let a = keeping::step_keeping(&mut s, ALL, &mut m, &[], 0, 0, &mut j, 0);
     show(b"536 journal bytes: number ", a.number);
     end_line();
     tell_slots(&s, slots_with(1, 0, 1024, 514, 9984, 0));
@@ -192,7 +194,7 @@ fn no_budget() {
     let mut s = slots_with(0, 0, 1024, 512, 9984, 2);
     let mut m = memory_with(96, 254);
     let mut j = [0u8; 536];
-    let a = keeping::run_keeping(&mut s, ALL, &mut m, 0, 0, &mut j, 0);
+    let a = keeping::run_keeping(&mut s, ALL, &mut m, &[], 0, 0, &mut j, 0);
     show(b"budget 0 on a halted machine: number ", a.number);
     show(b", reason ", a.reason);
     show(b", steps ", a.steps);
@@ -206,7 +208,7 @@ fn full_kept() {
     let mut s = slots_with(0, 0, 1024, 512, 9984, 0);
     let mut m = memory_with(112, 1);
     let mut j = record_of_mode();
-    let a = keeping::step_keeping(&mut s, ALL, &mut m, 0, 0, &mut j, 4);
+    let a = keeping::step_keeping(&mut s, ALL, &mut m, &[], 0, 0, &mut j, 4);
     show(b"532 bytes free, all records kept: number ", a.number);
     show_count(b", mark ", a.mark as u64);
     end_line();
@@ -230,7 +232,7 @@ fn full_dropped() {
     let mut s = slots_with(0, 0, 1024, 512, 9984, 0);
     let mut m = memory_with(112, 1);
     let mut j = record_of_mode();
-    let a = machine::step(&mut s, ALL, &mut m, 0, 0, &mut j, 4);
+    let a = machine::step(&mut s, ALL, &mut m, &[], 0, 0, &mut j, 4);
     show(b"532 bytes free, the oldest dropped: number ", a.number);
     show_count(b", mark ", a.mark as u64);
     show_count(b", moved ", a.moved as u64);
@@ -246,7 +248,7 @@ fn torn_step() {
     let mut s = slots_with(0, 0, 1024, 512, 9984, 0);
     let mut m = memory_with(112, 1);
     let mut j = [0u8; 536];
-    let a = machine::step(&mut s, ALL, &mut m, 0, 0, &mut j, 1);
+    let a = machine::step(&mut s, ALL, &mut m, &[], 0, 0, &mut j, 1);
     show(b"a byte that is no record, a step: number ", a.number);
     show_count(b", mark ", a.mark as u64);
     end_line();
@@ -260,7 +262,7 @@ fn torn_run() {
     let mut s = slots_with(0, 0, 1024, 512, 9984, 0);
     let mut m = memory_with(112, 1);
     let mut j = [0u8; 536];
-    let a = machine::run(&mut s, ALL, &mut m, 1, 512, &mut j, 1);
+    let a = machine::run(&mut s, ALL, &mut m, &[], 1, 512, &mut j, 1);
     show(b"a byte that is no record, a run: number ", a.number);
     show(b", reason ", a.reason);
     show(b", steps ", a.steps);
@@ -274,7 +276,7 @@ fn torn_run() {
 fn reset_window() {
     let mut s = slots_with(1, 1, 1, 1, 1, 2);
     let m = memory_with(112, 1);
-    let a = machine::reset(&mut s, &m);
+    let a = machine::reset(&mut s, &m, &[]);
     show(b"reset: number ", a.number);
     show(b", lo ", a.lo);
     show(b", hi ", a.hi);
@@ -286,7 +288,7 @@ fn reset_window() {
 fn refused_reset_window() {
     let mut s = slots_with(1, 1, 1, 1, 1, 0);
     let m = [0u8; 1022];
-    let a = machine::reset(&mut s, &m);
+    let a = machine::reset(&mut s, &m, &[]);
     show(b"reset of 1022 bytes: number ", a.number);
     show(b", lo ", a.lo);
     show(b", hi ", a.hi);
@@ -299,7 +301,7 @@ fn step_past() {
     let mut s = slots_with(0, 0, 1024, 512, 9984, 0);
     let mut m = memory_with(112, 1);
     let mut j = [0u8; 536];
-    let a = keeping::step_keeping(&mut s, PAST, &mut m, 0, 0, &mut j, 0);
+    let a = keeping::step_keeping(&mut s, PAST, &mut m, &[], 0, 0, &mut j, 0);
     show(b"a window to 1025, a step: number ", a.number);
     end_line();
     tell_slots(&s, slots_with(0, 0, 1024, 512, 9984, 0));
@@ -312,7 +314,7 @@ fn run_turned() {
     let mut s = slots_with(0, 0, 1024, 512, 9984, 0);
     let mut m = memory_with(112, 1);
     let mut j = [0u8; 536];
-    let a = machine::run(&mut s, TURNED, &mut m, 1000001, 0, &mut j, 0);
+    let a = machine::run(&mut s, TURNED, &mut m, &[], 1000001, 0, &mut j, 0);
     show(b"a window from 2 to 1, a run: number ", a.number);
     show(b", steps ", a.steps);
     end_line();
@@ -326,7 +328,7 @@ fn undo_turned() {
     let mut s = slots_with(0, 0, 1024, 512, 9984, 2);
     let mut m = memory_with(112, 1);
     let j = record_of_mode();
-    let a = machine::undo(&mut s, TURNED, &mut m, &j, 4);
+    let a = machine::undo(&mut s, TURNED, &mut m, &[], &j, 4);
     show(b"a window from 2 to 1, an undo: number ", a.number);
     show_count(b", mark ", a.mark as u64);
     end_line();
@@ -358,5 +360,6 @@ fn main() {
     step_past();
     run_turned();
     undo_turned();
+    roms::show_all();
     not_said();
 }

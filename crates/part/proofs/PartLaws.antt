@@ -4,7 +4,7 @@
 use Prim.Native.Nat.{ℕ, _+_, _-_, _<_, _≤_}
 use native.Mathlib.Omega.{arith}
 use mathlib.Core.Path.{_≡_, refl, sym, ap, _∙_, subst}
-use mathlib.Core.Bool.{Bool, true, false, _&&_, not}
+use mathlib.Core.Bool.{Bool, true, false, _&&_, _||_, not}
 use mathlib.Core.List.{List, []}
 use lib.ListN.{length, take, drop}
 use lib.Dec.{leb, eqb}
@@ -14,8 +14,8 @@ use Rattle.codes.specs.Codes.{RomStart}
 use Rattle.bits.specs.Bits.{pick}
 use Rattle.bits.proofs.BitsLaws.{and-left, and-right}
 use Rattle.calls.specs.Calls.{memory-fits, rom-fits, reset-number}
-use Rattle.calls.specs.Refusals.{Given, zero-at-end, this, later}
-use Rattle.calls.proofs.RefusalLaws.{Verdict, verdict, memory-given, rom-given}
+use Rattle.calls.specs.Refusals.{zero-at-end}
+use Rattle.calls.proofs.RefusalLaws.{Verdict, verdict, given-pick, memory-given, rom-given}
 use Rattle.part.specs.Part.{lies, Where, in-memory, in-rom, refused, where-is, number-of, PartOf, Placed, PartPromise, Fits, part-table, SamePart}
 
 -- ---- whether a part lies in a slice
@@ -80,3 +80,54 @@ placed-unique (refused n) m rom r t l h k = same-part m r t 0 0 h k
 pub part-unique : (m rom r t : RefT (List ℕ)) (a l x y : ℕ) → PartPromise m rom a l x r → PartPromise m rom a l y t → (x ≡ y) × SamePart r t
 part-unique m rom r t a l x y h k =
     (h .number-is ∙ sym (k .number-is), placed-unique (where-is (now m) (now rom) a l) m rom r t l (h .part-is) (k .part-is))
+
+-- ---- the number is given exactly when the table says
+module _ (m rom : List ℕ) (a l : ℕ) where
+  abbrev fits : Bool
+  fits = lies (length m) a l || (leb RomStart a && lies (length rom) (a - RomStart) l)
+
+  number-by : (x y z w : Bool)
+      → number-of (pick (eqb (pick (not x) 1 (pick (not y) 12 0)) 0) (pick z (in-memory a) (pick w (in-rom (a - RomStart)) (refused 13))) (refused (pick (not x) 1 (pick (not y) 12 0))))
+      ≡ pick (not x) 1 (pick (not y) 12 (pick (not (z || w)) 13 0))
+  number-by false y z w = refl
+  number-by true false z w = refl
+  number-by true true true w = refl
+  number-by true true false true = refl
+  number-by true true false false = refl
+
+  number-is : number-of (where-is m rom a l) ≡ pick (not (memory-fits m)) 1 (pick (not (rom-fits rom m)) 12 (pick (not fits) 13 0))
+  unfolding where-is reset-number
+  number-is = number-by (memory-fits m) (rom-fits rom m) (lies (length m) a l) (leb RomStart a && lies (length rom) (a - RomStart) l)
+
+  -- what the test of the last line says
+  neither : fits ≡ false → (Fits 0 (length m) a l → ⊥) × (Fits RomStart (length rom) a l → ⊥)
+  neither e = (
+    λ f. clash (lies (length m) a l) (leb RomStart a && lies (length rom) (a - RomStart) l) e (λ h k. h (le-leb (a + l) (length m) (omega (arith, f .to)))),
+    λ f. clash (lies (length m) a l) (leb RomStart a && lies (length rom) (a - RomStart) l) e
+        (λ h k. k (both-true (leb RomStart a) (lies (length rom) (a - RomStart) l) (le-leb RomStart a (f .from))
+        (le-leb (a - RomStart + l) (length rom) (omega (arith, f .from, f .to))))),
+  )
+    where
+      both-true : (x y : Bool) → x ≡ true → y ≡ true → (x && y) ≡ true
+      both-true x y h k = cc
+
+      clash : (x y : Bool) → (x || y) ≡ false → ((x ≡ true → ⊥) → (y ≡ true → ⊥) → ⊥) → ⊥
+      clash true y e h = let z : _≡_ {A = ℕ} 0 1 = cc in absurd (omega (arith, z))
+      clash false true e h = let z : _≡_ {A = ℕ} 0 1 = cc in absurd (omega (arith, z))
+      clash false false e h = h (λ q. let z : _≡_ {A = ℕ} 0 1 = cc in omega (arith, z)) (λ q. let z : _≡_ {A = ℕ} 0 1 = cc in omega (arith, z))
+
+  one-of-them : fits ≡ true → (Fits 0 (length m) a l → ⊥) × (Fits RomStart (length rom) a l → ⊥) → ⊥
+  one-of-them e h = go (lies (length m) a l) refl (leb RomStart a && lies (length rom) (a - RomStart) l) refl e
+    where
+      go : (x : Bool) → lies (length m) a l ≡ x → (y : Bool) → (leb RomStart a && lies (length rom) (a - RomStart) l) ≡ y → (x || y) ≡ true → ⊥
+      go true p y q e = h .0 (record { from = omega arith; to = omega (arith, leb-true (a + l) (length m) p) })
+      go false p true q e =
+          let f = leb-true RomStart a (and-left (leb RomStart a) (lies (length rom) (a - RomStart) l) q) in
+          let t = leb-true (a - RomStart + l) (length rom) (and-right (leb RomStart a) (lies (length rom) (a - RomStart) l) q) in
+          h .1 (record { from = f; to = omega (arith, f, t) })
+      go false p false q e = let z : _≡_ {A = ℕ} 0 1 = cc in omega (arith, z)
+
+  pub part-verdict : Verdict (part-table m rom a l) (number-of (where-is m rom a l))
+  part-verdict =
+      verdict (part-table m rom a l) (number-of (where-is m rom a l)) (omega arith)
+      (rw number-is (memory-given (rom-given (given-pick (not fits) 13 _ (λ e. neither (not-true fits e)) (λ e. one-of-them (not-false fits e)) zero-at-end) rom m) m))

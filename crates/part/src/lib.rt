@@ -49,12 +49,13 @@ pub fn part<'a, 'b>(
         *number = 0;
         return part_of(memory, address, many);
     }
-    let high = codes::ROM_START as u64 <= address;
+    let start = codes::ROM_START as u64;
+    let high = start <= address;
     if high {
-        let there = lies(rom.len() as u64, address - codes::ROM_START as u64, many);
+        let there = lies(rom.len() as u64, address - start, many);
         if there {
             *number = 0;
-            return part_of(rom, address - codes::ROM_START as u64, many);
+            return part_of(rom, address - start, many);
         }
         *number = 13;
         return part_of(memory, 0, 0);

@@ -14,7 +14,7 @@ use Rattle.exception.specs.Exceptions.{fresh}
 use Rattle.clocks.specs.Clocks.{exception-clocks}
 use Rattle.step.specs.declared.Tried.{Tried}
 use Rattle.step.specs.Steps.{Attempt, attempt, trap-of, traced, conclude, interrupt, trap-clocks, trace-clocks, ended-clocks}
-use Rattle.step.specs.Steps.{concluded-clocks, instruction-clocks, interrupt-clocks, step-clocks}
+use Rattle.step.specs.Steps.{begun, concluded-clocks, instruction-clocks, interrupt-clocks, step-clocks}
 
 -- of an instruction that met no fault, with its trap's vector
 module _ (t : Tried) (event vec n : ℕ) (e : vec ≡ trap-of (t .p)) where
@@ -68,10 +68,10 @@ unfolding concluded-clocks
 concluded-is s m r s₁ t b x n e1 e2 e3 e4 = cc
 
 -- s₁ is the second loan of the slots s
-pub instruction-clocks-is : (board : Board) (s s₁ m r₀ r : List ℕ) (f : Flow) (t : Tried) (n : ℕ) → s₁ ≡ s → r₀ ≡ bank s → f ≡ fresh (pc-of s) (sr-of s)
-    → record { r = r; t = t } ≡ attempt r₀ (seen-by (supervisor (f .sr)) board m) f → n ≡ concluded-clocks s₁ m r t → n ≡ instruction-clocks board s m
+pub instruction-clocks-is : (board : Board) (s s₁ m r : List ℕ) (t : Tried) (n : ℕ) → s₁ ≡ s → record { r = r; t = t } ≡ begun board s m
+    → n ≡ concluded-clocks s₁ m r t → n ≡ instruction-clocks board s m
 unfolding instruction-clocks
-instruction-clocks-is board s s₁ m r₀ r f t n e0 e1 e2 e3 e4 = cc (ap (λ (a : Attempt). a .r) e3, ap (λ (a : Attempt). a .t) e3)
+instruction-clocks-is board s s₁ m r t n e d h = cc (ap (λ (a : Attempt). a .r) d, ap (λ (a : Attempt). a .t) d)
 
 module _ (event : ℕ) where
   pub interrupt-halts : eqb event 257 ≡ true → 0 ≡ interrupt-clocks event

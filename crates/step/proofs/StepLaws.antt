@@ -23,7 +23,7 @@ use Rattle.exception.specs.Exceptions.{Stepped, fresh, supervisor-sr, exception
 use Rattle.execute.specs.Dispatch.{execute, own-clocks}
 use Rattle.step.specs.declared.Tried.{Tried}
 use Rattle.step.specs.Steps.{plan-with-flow, checked, Attempt, attempt, commit, trap-of, take-trap, traced, both, carry-out, conclude}
-use Rattle.step.specs.Steps.{instruction, interrupt-sr, interrupt, one-step}
+use Rattle.step.specs.Steps.{begun, instruction, interrupt-sr, interrupt, one-step}
 
 -- a part of an outcome
 module _ (x y : Stepped) (e : x ≡ y) where
@@ -69,6 +69,10 @@ pub lent-attempt-is : (board : Board) (m r t : List ℕ) (q : List (List ℕ)) (
     → view-of q ≡ seen-by b board m → record { r = t; t = x } ≡ attempt r (view-of q) f
     → record { r = t; t = x } ≡ attempt r (seen-by (supervisor (f .sr)) board m) f
 lent-attempt-is board m r t q f b x e d h = cc
+
+pub begun-is : (board : Board) (s m r t : List ℕ) (f : Flow) (x : Tried) → r ≡ bank s → f ≡ fresh (pc-of s) (sr-of s)
+    → record { r = t; t = x } ≡ attempt r (seen-by (supervisor (f .sr)) board m) f → record { r = t; t = x } ≡ begun board s m
+begun-is board s m r t f x e d h = cc
 
 module _ (m r o : List ℕ) (p : Plan) where
   pub commit-one : ltb (p .write) 3 ≡ true → o ≡ put-sized m (p .at) (p .write) (p .value) → o ≡ commit m r p
@@ -188,10 +192,10 @@ module _ (s m r : List ℕ) (t : Tried) where
   conclude-faults h = cc
 
 -- s₁ is the second loan of the slots s
-pub instruction-is : (board : Board) (s s₁ m r₀ r : List ℕ) (f : Flow) (t : Tried) → s₁ ≡ s → r₀ ≡ bank s → f ≡ fresh (pc-of s) (sr-of s)
-    → record { r = r; t = t } ≡ attempt r₀ (seen-by (supervisor (f .sr)) board m) f → conclude s₁ m r t ≡ instruction board s m
+pub instruction-is : (board : Board) (s s₁ m r : List ℕ) (t : Tried) → s₁ ≡ s → record { r = r; t = t } ≡ begun board s m
+    → conclude s₁ m r t ≡ instruction board s m
 unfolding instruction
-instruction-is board s s₁ m r₀ r f t e0 e1 e2 e3 = cc (ap (λ (a : Attempt). a .r) e3, ap (λ (a : Attempt). a .t) e3)
+instruction-is board s s₁ m r t e d = cc (ap (λ (a : Attempt). a .r) d, ap (λ (a : Attempt). a .t) d)
 
 pub interrupt-is : (s m : List ℕ) (level vector sr : ℕ) → sr ≡ interrupt-sr (sr-of s) level → exception s m vector sr ≡ interrupt s m level vector
 unfolding interrupt

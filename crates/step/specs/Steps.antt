@@ -79,9 +79,13 @@ conclude s m r t =
 abbrev pub sight : Board → List ℕ → List ℕ → View
 sight board s m = seen-by (supervisor (sr-of s)) board m
 
--- one instruction  [01 One step] [K7]
+-- an instruction up to its writes, from the slots  [01 One step] [K7]
+abbrev pub begun : Board → List ℕ → List ℕ → Attempt
+begun board s m = attempt (bank s) (sight board s m) (fresh (pc-of s) (sr-of s))
+
+-- one instruction  [01 One step]
 unfoldable pub instruction : Board → List ℕ → List ℕ → Stepped
-instruction board s m = let a = attempt (bank s) (sight board s m) (fresh (pc-of s) (sr-of s)) in conclude s m (a .r) (a .t)
+instruction board s m = let a = begun board s m in conclude s m (a .r) (a .t)
 
 -- S set, T clear, and the mask is the level, once SR is copied  [003 4.4.2] [01 One step]
 abbrev pub interrupt-sr : ℕ → ℕ → ℕ
@@ -122,7 +126,7 @@ concluded-clocks s m r t = let o = conclude s m r t in ended-clocks t (tracing (
 
 -- of one instruction  [K2]
 unfoldable pub instruction-clocks : Board → List ℕ → List ℕ → ℕ
-instruction-clocks board s m = let a = attempt (bank s) (sight board s m) (fresh (pc-of s) (sr-of s)) in concluded-clocks s m (a .r) (a .t)
+instruction-clocks board s m = let a = begun board s m in concluded-clocks s m (a .r) (a .t)
 
 -- of an interrupt, 0 if it halts  [003 D-14] [K2]
 unfoldable pub interrupt-clocks : ℕ → ℕ

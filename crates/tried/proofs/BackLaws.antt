@@ -6,6 +6,7 @@ use native.Mathlib.Omega.{arith}
 use mathlib.Core.Path.{_≡_, refl, sym, ap, _∙_, subst}
 use mathlib.Core.List.{List, [], _∷_, _++_, reverse}
 use lib.ListN.{length}
+use Rattle.bus.specs.declared.Window.{Window}
 use Rattle.bus.specs.Bus.{Board}
 use Rattle.numbers.specs.Number.{back, written}
 use Rattle.numbers.proofs.WrittenLaws.{back-written, length-written}
@@ -13,7 +14,7 @@ use Rattle.undo.proofs.UndoLaws.{back-below}
 use Rattle.calls.specs.declared.Manner.the-variants.{Keeping}
 use Rattle.calls.specs.Calls.{undo-call}
 use Rattle.calls.specs.History.{Machine, Request, seen, record-after, one-more}
-use Rattle.calls.proofs.ActLaws.{machine-at, act-step, step-valid, step-window, step-room}
+use Rattle.calls.proofs.ActLaws.{machine-at, act-step, step-valid, step-board, step-room}
 use Rattle.calls.proofs.BackLaws.{mark-after, undoing-to}
 use Rattle.tries.specs.Tries.{BackCall, backing}
 use Rattle.fence.specs.Rows.{Fit, answer-to, next, after-row}
@@ -60,10 +61,10 @@ row-journal (q ∷ qs) x f h =
     }
 
 -- what is left of taking back, over a journal
-abbrev pub backing-on : Board → ℕ → ℕ → List ℕ → Machine → BackCall
+abbrev pub backing-on : Window → ℕ → ℕ → List ℕ → Machine → BackCall
 backing-on old k n j x = backing (x .board) old k n (x .slots) (x .memory) j (x .mark)
 
-module _ (old : Board) where
+module _ (old : Window) where
   back-turn : (board : Board) (r n : ℕ) (s m j : List ℕ) (mark : ℕ) (t k : List ℕ) (start : ℕ)
       → undo-call board s m j mark ≡ record { s = t; m = k; a = record { number = 0; mark = start } }
       → backing board old (suc r) n s m j mark ≡ backing board old r (n + 1) t k j start
@@ -85,7 +86,7 @@ module _ (old : Board) where
       ∙ ap (λ (l : List ℕ). reverse bs ++ l)
       (sym (s .below (x .mark) (omega arith) ∙ back-below (x .journal) (x .mark) bs (x .mark) (omega arith) (omega (arith, room)))) in
       back-turn (x .board) r n (y .slots) (y .memory) j (y .mark) (x .slots) (x .memory) (x .mark)
-      (undoing-to q (seen x) (step-valid Keeping (q .level) (q .vector) x f h) (step-window Keeping (q .level) (q .vector) x h) j
+      (undoing-to q (seen x) (step-valid Keeping (q .level) (q .vector) x f h) (step-board Keeping (q .level) (q .vector) x h) j
       (omega (arith, s .long, long, room)) last)
 
   pub back-row : (qs : List Request) (x : Machine) → Fit x → AllAccepted qs x → (r n : ℕ)

@@ -17,7 +17,7 @@ use Rattle.fence.specs.Rows.{answer-to, next, after-row, AllCalm, Fit, LeftMach
 use mathlib.Core.List.{List, [], _∷_}
 use lib.ListN.{length}
 use Rattle.fence.proofs.OneLaws.{left-none}
-use Rattle.fence.proofs.FenceLaws.{window-stays, fit-next, user-calls-leave}
+use Rattle.fence.proofs.FenceLaws.{board-stays, fit-next, user-calls-leave}
 use Rattle.tried.specs.Tried.{plain, plains, AllAccepted, try-on}
 
 -- what is left of a try of a machine
@@ -128,9 +128,9 @@ module _ (count : ℕ) (x : Machine) where
   goes-on h u = cc
 
 -- ---- rows
-pub row-window : (qs : List Request) (x : Machine) → after-row Keeping qs x .board ≡ x .board
-row-window [] x = refl
-row-window (q ∷ qs) x = row-window qs (next Keeping q x) ∙ window-stays Keeping q x
+pub row-board : (qs : List Request) (x : Machine) → after-row Keeping qs x .board ≡ x .board
+row-board [] x = refl
+row-board (q ∷ qs) x = row-board qs (next Keeping q x) ∙ board-stays Keeping q x
 
 pub row-fit : (qs : List Request) (x : Machine) → Fit x → Fit (after-row Keeping qs x)
 row-fit [] x f = f
@@ -172,7 +172,7 @@ pub record Went (count : ℕ) (x : Machine) : Type 0 where
 module _ (count : ℕ) (x : Machine) where
   went-nowhere : (end number : ℕ) → (eqb end taken-exception || eqb end halt) ≡ false → try-on count x ≡ ended-at end number 0 x → Went count x
   went-nowhere end number k e =
-      record { calm = 0; accepted = tt; quiet = tt; left = λ f. left-none (x .board) (x .slots) (x .memory); result = at-rest end number k e }
+      record { calm = 0; accepted = tt; quiet = tt; left = λ f. left-none (x .board .window) (x .slots) (x .memory); result = at-rest end number k e }
 
   -- a try of calm steps and what follows them
   pub passed : (c : Course count x) → trying-on count 0 x ≡ trying-on (c .rest) (c .calm) (after-row Keeping (plains (c .calm)) x)

@@ -18,6 +18,7 @@ use borrow.Author.Tests.{eqb-true, eqb-false}
 use Rattle.codes.specs.Codes.{NoEvent, HaltEvent}
 use Rattle.bits.specs.Bits.{pick}
 use Rattle.bits.proofs.BitsLaws.{pick-cases}
+use Rattle.bus.specs.declared.Window.{Window}
 use Rattle.bus.specs.Bus.{Board}
 use Rattle.calls.specs.declared.Manner.the-variants.{Keeping}
 use Rattle.calls.specs.declared.StepAnswer.{StepAnswer}
@@ -27,17 +28,20 @@ use Rattle.tries.specs.declared.TryAnswer.{TryAnswer}
 use Rattle.tries.specs.Tries.{spent, taken-exception, halt, refused, TryCall, try-number, backing}
 use Rattle.fence.specs.Rows.{Fit, AlikeMachines, LeftMachine, answer-to, next, answers, after-row, AllCalm, SameRow}
 use Rattle.fence.proofs.OneLaws.{same-sr, same-mode}
-use Rattle.fence.proofs.FenceLaws.{window-stays, alike-back, same-told, same-call, alike-calls, same-vector, keeping-drops, keeping-drops-none}
-use Rattle.fence.proofs.FenceLaws.{in-window}
+use Rattle.fence.proofs.FenceLaws.{board-stays, alike-back, same-told, same-call, alike-calls, same-vector, keeping-drops, keeping-drops-none}
 use Rattle.tried.specs.Tried.{plain, plains, AllAccepted, try-on, after-try, back-on, exceptional, calm-steps, once-calm, taken-back, TryIs}
 use Rattle.tried.specs.Tried.{SameEnd}
 use Rattle.tried.specs.Tried.{same-end, first-halts, second-halts, SameTry}
 use Rattle.tried.proofs.CourseLaws.{trying-on, ended-at, ended-after, quiet, turn-ends, turn-refused, turn-spent, through, Ends, done}
-use Rattle.tried.proofs.CourseLaws.{refuses, excepts, Course, course-of, first-number, goes-refused, goes-on, row-window, row-fit}
+use Rattle.tried.proofs.CourseLaws.{refuses, excepts, Course, course-of, first-number, goes-refused, goes-on, row-board, row-fit}
 use Rattle.tried.proofs.CourseLaws.{plains-length, row-more, accepted-more, Result, at-rest, by-event, passed, went}
 use Rattle.tried.proofs.BackLaws.{backing-on, back-row}
 
 -- ---- a try is its steps
+-- a machine on another board
+abbrev on-board : Board → Machine → Machine
+on-board board z = record { board = board; slots = z .slots; memory = z .memory; journal = z .journal; mark = z .mark }
+
 -- the machine that a try leaves, from its call
 abbrev left-by : Machine → TryCall → Machine
 left-by x t = record { board = x .board; slots = t .s; memory = t .m; journal = t .j; mark = t .a .mark }
@@ -55,7 +59,7 @@ module _ (event n : ℕ) (z : Machine) where
 
   after-left : (x : Machine) → z .board ≡ x .board → left-by x (ended-after event n z) ≡ z
   after-left x e =
-      let g = ap (λ (board : Board). in-window board z) (sym e) in pick-cases (λ (t : TryCall). left-by x t ≡ z) (eqb event HaltEvent) g g
+      let g = ap (λ (board : Board). on-board board z) (sym e) in pick-cases (λ (t : TryCall). left-by x t ≡ z) (eqb event HaltEvent) g g
 
 module _ (x : Machine) (c : ℕ) (t : TryCall) where
   abbrev z : Machine
@@ -80,7 +84,7 @@ module _ (x : Machine) (c : ℕ) (t : TryCall) where
       }
     where
       back : left-by x (ended-at end number c z) ≡ z
-      back = ap (λ (board : Board). in-window board z) (sym (row-window (plains c) x))
+      back = ap (λ (board : Board). on-board board z) (sym (row-board (plains c) x))
   steps-of a (by-event h l e) =
       let event = answer-to Keeping plain z .event in
       let y = next Keeping plain z in
@@ -91,7 +95,7 @@ module _ (x : Machine) (c : ℕ) (t : TryCall) where
         accepted = subst (λ (n : ℕ). AllAccepted (plains n) x) (sym n) more;
         machine =
             ap (left-by x) e
-            ∙ after-left event (c + 1) y x (window-stays Keeping plain z ∙ row-window (plains c) x)
+            ∙ after-left event (c + 1) y x (board-stays Keeping plain z ∙ row-board (plains c) x)
             ∙ sym (row-more c x)
             ∙ ap (λ (n : ℕ). after-row Keeping (plains n) x) (sym n);
       }
@@ -145,9 +149,9 @@ module _ (x y : Machine) (h : AlikeMachines x y) where
   same-first : (count : ℕ) → first-number count x ≡ first-number count y
   unfolding try-number first-tests
   same-first count =
-      let sr = same-sr (x .board) (x .slots) (y .slots) (x .memory) (y .memory) (h .states) in
-      let mode = same-mode (x .board) (x .slots) (y .slots) (x .memory) (y .memory) (h .states) in
-      cc (sr, mode, h .states .memory .long, h .board, h .journal, h .mark)
+      let sr = same-sr (x .board) (y .board) (x .slots) (y .slots) (x .memory) (y .memory) (h .states) in
+      let mode = same-mode (x .board) (y .board) (x .slots) (y .slots) (x .memory) (y .memory) (h .states) in
+      cc (sr, mode, h .states .memory .long, h .states .boards .window, h .states .boards .rom .long, h .journal, h .mark)
 
 loud-too : (x y : Machine) → AlikeMachines x y → Fit x → Fit y → quiet x ≡ false → quiet y ≡ false
 loud-too x y h fx fy e = go (quiet y) refl
@@ -289,7 +293,7 @@ module _ (count : ℕ) (x y : Machine) (s : SameTry count x y) where
       (ap (λ (n : ℕ). after-row Keeping (plains n) y) same-calm ∙ sym (once-calm-is count y k)) (s .calm .alike)
 
 -- ---- theorem 3
-pub take-back : (old : Board) (count : ℕ) (x : Machine) → Fit x
+pub take-back : (old : Window) (count : ℕ) (x : Machine) → Fit x
     → back-on old (try-on count x .a .steps) (after-try count x)
     ≡ taken-back old count x
 unfolding backing

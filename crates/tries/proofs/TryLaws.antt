@@ -9,6 +9,7 @@ use mathlib.Core.Bool.{Bool, true, false, not}
 use mathlib.Core.List.{List}
 use lib.Dec.{eqb}
 use borrow.Author.Tests.{eqb-true, eqb-false, not-true, not-false}
+use Rattle.bus.specs.declared.Window.{Window}
 use Rattle.bus.specs.Bus.{Board}
 use Rattle.bank.specs.Bank.{sr-of, supervisor}
 use Rattle.calls.specs.declared.Manner.the-variants.{Keeping}
@@ -137,14 +138,14 @@ module _ (board : Board) (s m : List ℕ) (count : ℕ) (j : List ℕ) (mark num
         }
 
 -- ---- taking back
-pub record Backing (board old : Board) (b : ℕ) (s₀ m₀ j : List ℕ) (mark₀ : ℕ) (s m : List ℕ) (mark n : ℕ) : Type 0 where
+pub record Backing (board : Board) (old : Window) (b : ℕ) (s₀ m₀ j : List ℕ) (mark₀ : ℕ) (s m : List ℕ) (mark n : ℕ) : Type 0 where
   pub le : n ≤ b
   pub rest : backing board old (b - n) n s m j mark ≡ backing board old b 0 s₀ m₀ j mark₀
 
-pub backing-start : (board old : Board) (b : ℕ) (s m j : List ℕ) (mark : ℕ) → Backing board old b s m j mark s m mark 0
+pub backing-start : (board : Board) (old : Window) (b : ℕ) (s m j : List ℕ) (mark : ℕ) → Backing board old b s m j mark s m mark 0
 backing-start board old b s m j mark = record { le = omega arith; rest = (let e : b - 0 ≡ b = omega arith in rw e) }
 
-module _ {board old : Board} {b : ℕ} {s₀ m₀ j : List ℕ} {mark₀ : ℕ} {s m : List ℕ} {mark n : ℕ} (i : Backing board old b s₀ m₀ j mark₀ s m mark n) where
+module _ {board : Board} {old : Window} {b : ℕ} {s₀ m₀ j : List ℕ} {mark₀ : ℕ} {s m : List ℕ} {mark n : ℕ} (i : Backing board old b s₀ m₀ j mark₀ s m mark n) where
   backed : (s₁ m₁ : List ℕ) (a : BackAnswer) → record { s = s₁; m = m₁; a = a } ≡ backing board old b 0 s₀ m₀ j mark₀ → BackPromise board old s₀ m₀ j mark₀ b s₁ m₁ a
   backed s₁ m₁ a e =
       record { slots = ap (λ (c : BackCall). c .s) e; memory = ap (λ (c : BackCall). c .m) e; answer = ap (λ (c : BackCall). c .a) e }
@@ -164,7 +165,7 @@ module _ {board old : Board} {b : ℕ} {s₀ m₀ j : List ℕ} {mark₀ : ℕ} 
     undo-number-is = ap (λ (x : UndoAnswer). x .number) (p .answer)
 
     pub backs-refused : not (eqb (a .number) 0) ≡ true
-        → BackPromise board old s₀ m₀ j mark₀ b s₁ m₁ (record { number = a .number; undone = n; mark = mark; lo = board .lo; hi = board .hi })
+        → BackPromise board old s₀ m₀ j mark₀ b s₁ m₁ (record { number = a .number; undone = n; mark = mark; lo = board .window .lo; hi = board .window .hi })
     unfolding backing
     backs-refused t =
         let f = not-true (eqb (a .number) 0) t in

@@ -116,10 +116,11 @@ fn trying(
         }
         let loud = a.event != codes::NO_EVENT;
         if loud {
+            let vector = a.event - 1;
             return TryAnswer {
                 end: TAKEN_EXCEPTION,
                 number: 0,
-                vector: a.event - 1,
+                vector,
                 steps: n,
                 mark: at,
             };

@@ -1,28 +1,32 @@
 // main.rt - what a moderator runs on a stranger's pattern: it is tried in its window, what it did is told, and all is taken back.
 // Means: nothing; proved safe. What a try and taking it back are stands in specs/Tries.antt of the crate tries.
-// Uses: codes, bus, calls, machine, tries, compare, console, io, libc, os.  Source: [K7].
+// Uses: codes, bus, calls, machine, tries, compare, console, io, libc, os.  Source: [K7], [K10].
 //
-//     ./run tryer LO HI STEPS PC STACK < IMAGE
+//     ./run tryer LO HI STEPS PC STACK ROM < IMAGE
 //
 // The image, up to 65,536 bytes, stands at address 0 of a memory of 65,536 bytes. After a reset by it the pattern starts in user state, with
 // registers of 0: in the window from LO to below HI (0 and 10000), for at most STEPS steps (100000), at PC (the reset's), with STACK as its
-// stack pointer (HI). LO, HI, PC and STACK are in base 16 with nothing before the digits, STEPS is in base 10. Words may be left out from the
-// last on, and a dash stands for what is in parentheses. Where the image has 0 for SSP it is memory's end, so that an exception finds room for
-// its frame. The journal has 4 MiB: some 400,000 ordinary steps.
+// stack pointer (HI, or 10000 if that is lower), beside the ROM that the file ROM has (none). LO, HI, PC and STACK are in base 16 with nothing
+// before the digits, STEPS is in base 10. Words may be left out from the last on, and a dash stands for what is in parentheses. Where the image
+// has 0 for SSP it is memory's end, so that an exception finds room for its frame. The journal has 4 MiB: some 400,000 ordinary steps.
 mod changes;
 mod ending;
 mod names;
+mod rom;
 mod words;
 
 use bus::Window;
 use calls::ResetAnswer;
 use changes::Bounds;
+use codes::MOST_ROM;
+use codes::ROM_START;
 use codes::SLOTS;
 use console::address;
 use console::complain;
 use console::counted;
 use console::decimal;
 use console::has_more;
+use console::hex;
 use console::text;
 use libc::STDIN_FILENO;
 use tries::BackAnswer;
@@ -51,11 +55,29 @@ fn set_user(slots: &mut [u32; SLOTS], w: Words) {
     slots[codes::SR] = 0;
 }
 
-fn tell_asked(n: usize, a: Asked, slots: &[u32; SLOTS]) {
+// The ROM, if there is one: its length, and its first and last place.
+fn tell_rom(rom: &[u8]) {
+    let n = rom.len() as u64;
+    if n == 0 {
+        return;
+    }
+    let start = ROM_START as u64;
+    text(b"ROM: ");
+    counted(n, b"byte");
+    text(b", ");
+    hex(start, 6);
+    text(b" to ");
+    hex(std::num::wrapping_add_u64(start, n - 1), 6);
+    text(b"\n");
+}
+
+fn tell_asked(n: usize, a: Asked, slots: &[u32; SLOTS], rom: &[u8]) {
     let win = a.win;
     text(b"image: ");
     counted(n as u64, b"byte");
-    text(b"\ntried: window ");
+    text(b"\n");
+    tell_rom(rom);
+    text(b"tried: window ");
     address(win.lo);
     text(b" to below ");
     address(win.hi);
@@ -144,14 +166,15 @@ fn try_it(
     slots: &mut [u32; SLOTS],
     before: &[u8],
     memory: &mut [u8],
+    rom: &[u8],
     journal: &mut [u8],
 ) {
     let start = *slots;
     let win = a.win;
     let old = a.old;
-    let t = tries::try_pattern(slots, win, memory, a.steps, journal, 0);
+    let t = tries::try_pattern(slots, win, memory, rom, a.steps, journal, 0);
     tell_tried(t, win, &start, slots, before, memory);
-    let b = tries::take_back(slots, win, memory, journal, t.mark, t.steps, old);
+    let b = tries::take_back(slots, win, memory, rom, journal, t.mark, t.steps, old);
     tell_back(t, b);
     compare_all(b, old, &start, slots, before, memory);
 }
@@ -161,9 +184,10 @@ fn lend(
     slots: &mut [u32; SLOTS],
     before: &[u8; MEMORY],
     memory: &mut [u8; MEMORY],
+    rom: &[u8],
     journal: &mut [u8; JOURNAL],
 ) {
-    try_it(a, slots, before, memory, journal);
+    try_it(a, slots, before, memory, rom, journal);
 }
 
 // What the words ask, where the window before is the reset's.
@@ -181,22 +205,41 @@ fn what_is_asked(w: Words, r: ResetAnswer) -> Asked {
 }
 
 // Resets by the image, sets the start, and tries.
-fn try_image(n: usize, w: Words, memory: &mut [u8; MEMORY]) {
+fn try_image(n: usize, w: Words, memory: &mut [u8; MEMORY], rom: &[u8]) {
     let mut slots = [0u32; SLOTS];
     let mut journal = [0u8; JOURNAL];
     let before = *memory;
-    let r = machine::reset(&mut slots, memory);
+    let r = machine::reset(&mut slots, memory, rom);
     set_user(&mut slots, w);
     let a = what_is_asked(w, r);
-    tell_asked(n, a, &slots);
-    lend(a, &mut slots, &before, memory, &mut journal);
+    tell_asked(n, a, &slots, rom);
+    lend(a, &mut slots, &before, memory, rom, &mut journal);
+}
+
+// Tries with so many bytes of the ROM; where it could not be read there are fewer.
+fn try_with(n: usize, w: Words, memory: &mut [u8; MEMORY], rom: &[u8], length: usize) {
+    if rom.len() < length {
+        return;
+    }
+    try_image(n, w, memory, &rom[0..length]);
+}
+
+fn lend_rom(n: usize, w: Words, memory: &mut [u8; MEMORY], rom: &[u8; MOST_ROM], length: usize) {
+    try_with(n, w, memory, rom, length);
+}
+
+// Reads the ROM, and tries.
+fn try_beside(n: usize, w: Words, memory: &mut [u8; MEMORY]) {
+    let mut rom = [0u8; MOST_ROM];
+    let length = rom::read(&mut rom);
+    lend_rom(n, w, memory, &rom, length);
 }
 
 fn main() {
     let w = words::read();
     if !words::are_good(w) {
         complain(
-            b"usage: ./run tryer [LO HI STEPS PC STACK] < IMAGE; STEPS is in base 10, the others in base 16, - is the default\n",
+            b"usage: ./run tryer [LO HI STEPS PC STACK ROM] < IMAGE; STEPS is in base 10, ROM a file, the others in base 16, - is the default\n",
         );
         return;
     }
@@ -206,5 +249,5 @@ fn main() {
         complain(b"tryer: the image has more than 65536 bytes\n");
         return;
     }
-    try_image(n, w, &mut memory);
+    try_beside(n, w, &mut memory);
 }

@@ -1,6 +1,6 @@
 // names.rt - vectors and refusals by name, for a person.
 // Means: nothing; proved safe.
-// Uses: codes, console.  Source: [003 4-2], [01 Calls, table], [K7].
+// Uses: codes, console.  Source: [003 4-2], [01 Calls, table], [K7], [K10].
 use console::decimal;
 use console::text;
 
@@ -59,8 +59,9 @@ pub fn refusal(number: u32) {
         7 => text(b"the journal has no record to undo"),
         8 => text(b"the journal's last bytes are no record"),
         10 => text(
-            b"the window is none: its start lies above its end, or its end above the memory's",
+            b"the window is none: its start lies above its end, or its end above that of memory and ROM",
         ),
+        12 => text(b"the ROM is of no length that is taken, or the memory beside it too long"),
         _ => text(b"none that a try or an undo has"),
     }
 }

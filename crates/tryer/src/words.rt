@@ -1,4 +1,4 @@
-// words.rt - the words after the program's name: which addresses, steps, start and stack they ask.
+// words.rt - the words after the program's name: which addresses, steps, start and stack they ask, and the name of a ROM's file.
 // Means: nothing; proved safe.
 // Uses: io, os.  Source: [ours].
 
@@ -8,6 +8,9 @@ pub const MEMORY: usize = 65536;
 const ALL: u64 = 65536;
 
 const STEPS: u64 = 100000;
+
+// which word is the name of a file
+pub const FILE: usize = 6;
 
 // what stands for a word that is no number: one more than any number of 32 bits
 pub const NO_NUMBER: u64 = 4294967296;
@@ -89,6 +92,14 @@ fn word(k: usize, ten: bool, other: u64) -> u64 {
     spelled(&text[..n], ten, other)
 }
 
+// The stack that no word names: at the window's end, or at memory's where the window reaches into ROM.
+fn stack_below(hi: u64) -> u64 {
+    if hi < ALL {
+        return hi;
+    }
+    ALL
+}
+
 pub fn read() -> Words {
     let hi = word(2, false, ALL);
     Words {
@@ -96,13 +107,13 @@ pub fn read() -> Words {
         hi,
         steps: word(3, true, STEPS),
         pc: word(4, false, OF_RESET),
-        stack: word(5, false, hi),
+        stack: word(5, false, stack_below(hi)),
     }
 }
 
 // Whether there are not too many words, and each is a number.
 pub fn are_good(w: Words) -> bool {
-    if 6 < os::arg_count() {
+    if 7 < os::arg_count() {
         return false;
     }
     w.lo < NO_NUMBER
@@ -110,6 +121,16 @@ pub fn are_good(w: Words) -> bool {
         && w.steps < NO_NUMBER
         && w.pc != NO_NUMBER
         && w.stack < NO_NUMBER
+}
+
+// Whether a word is the name of a ROM's file.
+pub fn names_rom() -> bool {
+    if os::arg_count() <= FILE {
+        return false;
+    }
+    let mut text = io::buffer();
+    let n = os::arg(FILE, &mut text);
+    !is_dash(&text[..n])
 }
 
 // The number of a word, with 32 bits.

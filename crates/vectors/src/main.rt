@@ -61,12 +61,42 @@ fn text_of(line: &[u8], r: Reading) -> &[u8] {
     line
 }
 
-// The memory that the line asks for; 0 if it is no case or too long.
-fn room_of(line: &[u8], r: Reading) -> usize {
-    if line.len() < r.length {
-        return 0;
+// how much room a line asks for: none if it is no case or too long; a small memory and a small ROM; a small memory and any ROM; or any
+// memory and any ROM
+const NO_CASE: u32 = 0;
+
+const SMALL: u32 = 1;
+
+const WIDE: u32 = 2;
+
+const LARGE: u32 = 3;
+
+// bytes of a small memory, and of a small ROM
+const SMALL_BYTES: usize = 65536;
+
+fn room_for(memory: usize, rom: usize) -> u32 {
+    if memory == 0 {
+        return NO_CASE;
     }
-    cases::trying::memory_length(text_of(line, r))
+    if SMALL_BYTES < memory {
+        return LARGE;
+    }
+    if SMALL_BYTES < rom {
+        return WIDE;
+    }
+    SMALL
+}
+
+// The room that the line that was read asks for.
+fn room_of(line: &[u8], r: Reading) -> u32 {
+    if line.len() < r.length {
+        return NO_CASE;
+    }
+    let text = text_of(line, r);
+    room_for(
+        cases::fields::memory_length(text),
+        cases::fields::rom_length(text),
+    )
 }
 
 fn try_small(
@@ -74,8 +104,19 @@ fn try_small(
     text: &[u8],
     memory: &mut [u8; 65536],
     wanted: &mut [u8; 65536],
+    rom: &mut [u8; 65536],
 ) -> Progress {
-    reported(p, text, cases::trying::try_case(text, memory, wanted))
+    reported(p, text, cases::trying::try_case(text, memory, wanted, rom))
+}
+
+fn try_wide(
+    p: Progress,
+    text: &[u8],
+    memory: &mut [u8; 65536],
+    wanted: &mut [u8; 65536],
+    rom: &mut [u8; 1048576],
+) -> Progress {
+    reported(p, text, cases::trying::try_case(text, memory, wanted, rom))
 }
 
 fn try_large(
@@ -83,20 +124,48 @@ fn try_large(
     text: &[u8],
     memory: &mut [u8; 16777216],
     wanted: &mut [u8; 16777216],
+    rom: &mut [u8; 1048576],
 ) -> Progress {
-    reported(p, text, cases::trying::try_case(text, memory, wanted))
+    reported(p, text, cases::trying::try_case(text, memory, wanted, rom))
 }
 
 fn small_case(p: Progress, line: &[u8]) -> Progress {
     let mut memory = [0u8; 65536];
     let mut wanted = [0u8; 65536];
-    try_small(p, text_of(line, p.reading), &mut memory, &mut wanted)
+    let mut rom = [0u8; 65536];
+    try_small(
+        p,
+        text_of(line, p.reading),
+        &mut memory,
+        &mut wanted,
+        &mut rom,
+    )
+}
+
+fn wide_case(p: Progress, line: &[u8]) -> Progress {
+    let mut memory = [0u8; 65536];
+    let mut wanted = [0u8; 65536];
+    let mut rom = [0u8; 1048576];
+    try_wide(
+        p,
+        text_of(line, p.reading),
+        &mut memory,
+        &mut wanted,
+        &mut rom,
+    )
 }
 
 fn large_case(p: Progress, line: &[u8]) -> Progress {
     let mut memory = [0u8; 16777216];
     let mut wanted = [0u8; 16777216];
-    try_large(p, text_of(line, p.reading), &mut memory, &mut wanted)
+    let mut rom = [0u8; 1048576];
+    try_large(
+        p,
+        text_of(line, p.reading),
+        &mut memory,
+        &mut wanted,
+        &mut rom,
+    )
 }
 
 fn read_line(p: Progress, chunk: &mut [u8], line: &mut [u8]) -> Progress {
@@ -122,12 +191,15 @@ fn try_lines(k: u32, large: bool, p: Progress, chunk: &mut [u8], line: &mut [u8]
     if q.reading.state == NO_MORE {
         return q;
     }
-    let n = room_of(line, q.reading);
-    if n == 0 {
+    let room = room_of(line, q.reading);
+    if room == NO_CASE {
         return reported(q, text_of(line, q.reading), verdicts::MALFORMED);
     }
-    if n <= 65536 {
+    if room == SMALL {
         return small_case(q, line);
+    }
+    if room == WIDE {
+        return wide_case(q, line);
     }
     if large {
         return large_case(q, line);

@@ -11,4 +11,5 @@ first-number-spec =
     (λ c κs. search needs) (λ c. search (refuse-not, pass-not))
     (λ c κs. search needs) (λ c. search (refuse-not, pass-not))
     (λ c κs. search needs) (λ c. search (refuse-not, pass-not))
+    (λ c κs. search needs) (λ c. search (refuse-not, pass-not))
     (λ c. search (refuse-not, pass-not)))

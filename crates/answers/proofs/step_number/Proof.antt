@@ -3,6 +3,7 @@ use mathlib.Core.Path.{_≡_, refl}
 use denote.Ref.{now}
 use lib.Dec.{eqb}
 use Rattle.bits.specs.Bits.{pick}
+use Rattle.bus.specs.Bus.{board-of}
 use Rattle.bank.specs.Bank.{mode-of}
 use Rattle.answers.proofs.NumberLaws.{pass, pass-by, refuse, refuse-by, first-passes, first-refuses}
 use Rattle.calls.specs.Calls.{no-room, step-tests}
@@ -12,9 +13,9 @@ use Rattle.answers.proofs.step_number.Tie as tie
 
 -- after three tests that are passed the fourth and the fifth decide: `search` does not go so deep
 passed : (c : tie.Else3) {r : ℕ}
-    → let a = c .before .before .before .before .before .before .args in
+    → let a = c .before .before .before .before .before .before .before .args in
     r ≡ pick (no-room (a .manner) (now (a .journal)) (a .mark)) 5 (pick (eqb (mode-of (now (a .slots))) 2) 6 0)
-    → r ≡ step-tests (a .manner) (a .win) (now (a .slots)) (now (a .memory)) (a .level) (now (a .journal)) (a .mark) 0
+    → r ≡ step-tests (a .manner) (board-of (a .win) (now (a .rom))) (now (a .slots)) (now (a .memory)) (a .level) (now (a .journal)) (a .mark) 0
 unfolding step-tests
 passed c e = search (first-passes, pass)
 

@@ -7,13 +7,13 @@ use Rattle.full.proofs.running_full.Statement.{statement}
 use Rattle.full.proofs.running_full.Tie as tie
 
 note-posts-requires : tie.Need-note-posts-requires
-note-posts-requires c κs = let z = c .before .before .before .before .before in (z .pre .0 .1, omega arith, omega arith)
+note-posts-requires c κs = let z = c .before .before .before .before .before .before in (z .pre .0 .1, omega arith, omega arith)
 
 running-known-requires : tie.Need-running-known-requires
 running-known-requires c κs =
     let t = c .before .before .before .before .before .before in
     let d = t .before in
-    let z = c .before .before .before .before .before .before .before .before .before .before .before .before .before .before .before in
+    let z = c .before .before .before .before .before .before .before .before .before .before .before .before .before .before .before .before in
     let p = z .pre .0 in
     let q = z .pre .1 .0 in
     let k = z .pre .1 .1 in
@@ -21,7 +21,7 @@ running-known-requires c κs =
 
 torn : tie.Need-returns-2
 torn c =
-    let z = c .before .before .before .before .before .before .before .before in
+    let z = c .before .before .before .before .before .before .before .before .before in
     let k = z .pre .1 .1 in
     full-torn _ _ _ _ _ (c .before .before .note-posts .ensures) (c .if1 .left) _ _ _ _ _ _ _ refl (k .0) (k .1) (k .2) (z .pre .0 .4) (k .3)
 

@@ -1,5 +1,6 @@
 use Prim.Native.Nat.{_-_, _<_, _^_}
 use native.Mathlib.Omega.{arith}
+use Rattle.bus.specs.Bus.{board-of}
 use Rattle.taken.proofs.TakenLaws.{valid-lent}
 use Rattle.full.proofs.FullLaws.{Going, going-start, going-again, going-room, going-step, going-post, going-dropped, going-sum}
 use Rattle.full.proofs.FullLaws.{going-one, going-less}
@@ -11,17 +12,17 @@ use Rattle.calls.specs.declared.Manner.the-variants.{Dropping}
 use Rattle.calls.specs.Calls.{running}
 
 abbrev Inv-loop : tie.InvT-loop
-Inv-loop slots₀ board memory₀ budget stop journal₀ mark done clocks log₀ h spread posts₀ near₀ size long len n₀ c₀ m₀ b₀ i₀ base₀ moved₀ dropped₀ slots memory journal log posts near n c m b i base moved dropped =
-    Going board budget stop (running Dropping board (budget - done) done clocks 0 0 stop slots₀ memory₀ journal₀ mark) h mark
+Inv-loop slots₀ win memory₀ rom budget stop journal₀ mark done clocks log₀ h spread posts₀ near₀ size long len n₀ c₀ m₀ b₀ i₀ base₀ moved₀ dropped₀ slots memory journal log posts near n c m b i base moved dropped =
+    Going (board-of win rom) budget stop (running Dropping (board-of win rom) (budget - done) done clocks 0 0 stop slots₀ memory₀ journal₀ mark) h mark
     memory₀ journal₀ log₀ posts₀ near₀ slots memory journal log posts near n c m b i base moved dropped
 
 abbrev μ-loop : tie.MeasureT-loop
-μ-loop slots₀ board memory₀ budget stop journal₀ mark done clocks log₀ h spread posts₀ near₀ size long len n₀ c₀ m₀ b₀ i₀ base₀ moved₀ dropped₀ slots memory journal log posts near n c m b i base moved dropped = budget - n
+μ-loop slots₀ win memory₀ rom budget stop journal₀ mark done clocks log₀ h spread posts₀ near₀ size long len n₀ c₀ m₀ b₀ i₀ base₀ moved₀ dropped₀ slots memory journal log posts near n c m b i base moved dropped = budget - n
 
 loop-holds : tie.Need-loop-holds Inv-loop μ-loop
 loop-holds c =
     let t = c .before .before .twenty .ensures in
-    let z = c .before .before .before .before .before .before .before .before .before in
+    let z = c .before .before .before .before .before .before .before .before .before .before in
     let p = z .pre .0 in
     let q = z .pre .1 .0 in
     let k = z .pre .1 .1 in
@@ -29,12 +30,12 @@ loop-holds c =
 
 -- a journal has fewer than 2 to the 63rd bytes
 small : (z : tie.Start Inv-loop μ-loop) → z .args .mark < 2 ^ 63
-small z = omega (arith, z .pre .0 .1, z .good .1 .1 .1 .1 .0 .1)
+small z = omega (arith, z .pre .0 .1, z .good .1 .1 .1 .1 .1 .0 .1)
 
 room-known-requires : tie.Need-room-known-requires Inv-loop μ-loop
 room-known-requires c κs =
     let l = c .before .before .before .before .before .before .before .before .before .before in
-    let z = c .before .before .before .before .before .before .before .before .before .before .before .before .before .before .before .before .before .before .before .before in
+    let z = c .before .before .before .before .before .before .before .before .before .before .before .before .before .before .before .before .before .before .before .before .before in
     let k = z .pre .1 .1 in
     going-room (l .loop .inv) _ (k .1) (k .2) (k .3) (small z)
 
@@ -42,13 +43,13 @@ add-note-post : tie.Need-add-note-post Inv-loop μ-loop
 add-note-post c =
     let j = c .before .before .before .before .before in
     let l = c .before .before .before .before .before .before .before .before .before .before .before .before .before .before .before .before .before in
-    let z = c .before .before .before .before .before .before .before .before .before .before .before .before .before .before .before .before .before .before .before .before .before .before .before .before .before .before .before in
+    let z = c .before .before .before .before .before .before .before .before .before .before .before .before .before .before .before .before .before .before .before .before .before .before .before .before .before .before .before .before in
     record { fits = going-post (l .loop .inv) _ _ _ (j .before .room-known .ensures) (j .journal .given) (small z) }
 
 note-post-requires : tie.Need-note-post-requires Inv-loop μ-loop
 note-post-requires c κs =
     let l = c .before .before .before .before .before .before .before .before .before .before .before .before .before .before .before .before .before in
-    let k = c .before .before .before .before .before .before .before .before .before .before .before .before .before .before .before .before .before .before .before .before .before .before .before .before .before .before .before .pre .1 .1 in
+    let k = c .before .before .before .before .before .before .before .before .before .before .before .before .before .before .before .before .before .before .before .before .before .before .before .before .before .before .before .before .pre .1 .1 in
     (k .1, omega (arith, l .loop .inv .same-posts, k .2))
 
 step-taken-requires : tie.Need-step-taken-requires Inv-loop μ-loop
@@ -74,7 +75,7 @@ add-dropped : tie.Need-add-dropped Inv-loop μ-loop
 add-dropped c =
     let j = c .before .before .before .before .before .before .before .before .before .before .before .before .before .before .before .before .before .before .before .before .before in
     let l = c .before .before .before .before .before .before .before .before .before .before .before .before .before .before .before .before .before .before .before .before .before .before .before .before .before .before .before .before .before .before .before .before .before in
-    let z = c .before .before .before .before .before .before .before .before .before .before .before .before .before .before .before .before .before .before .before .before .before .before .before .before .before .before .before .before .before .before .before .before .before .before .before .before .before .before .before .before .before .before .before in
+    let z = c .before .before .before .before .before .before .before .before .before .before .before .before .before .before .before .before .before .before .before .before .before .before .before .before .before .before .before .before .before .before .before .before .before .before .before .before .before .before .before .before .before .before .before .before in
     record { fits = going-dropped (l .loop .inv) _ _ _ (j .before .room-known .ensures) (j .journal .given) (small z) }
 
 loop-again : tie.Need-loop-again Inv-loop μ-loop

@@ -5,14 +5,14 @@ use Rattle.ibezofanle.proofs.ibz_reset.Statement.{statement}
 use Rattle.ibezofanle.proofs.ibz_reset.Tie as tie
 
 returns : tie.Need-returns
-returns c = ibz-reset-nine _ _ (c .if1 .taken)
+returns c = ibz-reset-nine _ _ _ (c .if1 .taken)
 
 returns-2 : tie.Need-returns-2
 returns-2 c =
     let written = c .before .before in
     let called = written .before .before .before in
     let fits = called .before .before .before .before .if1 .left in
-    ibz-reset-held _ _ fits _ _ (called .reset .ensures) _ (written .put-block .ensures)
+    ibz-reset-held _ _ _ fits _ _ (called .reset .ensures) _ (written .put-block .ensures)
 
 pub ibz-reset-spec : {M : Type 1} → statement M
 ibz-reset-spec =

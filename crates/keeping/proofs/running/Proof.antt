@@ -1,6 +1,7 @@
 use Prim.Native.Nat.{_-_}
 use native.Mathlib.Omega.{arith}
 use borrow.Author.Tests.{leb-false}
+use Rattle.bus.specs.Bus.{board-of}
 use Rattle.keeping.proofs.LoopLaws.{Going, going-start, going-again, going-requires, going-sum}
 use Rattle.keeping.proofs.LoopLaws.{going-spent, going-halted, going-stopped, going-full, going-there}
 use borrow.Author.Needs.{needs}
@@ -8,14 +9,14 @@ use Rattle.keeping.proofs.running.Statement.{statement}
 use Rattle.keeping.proofs.running.Tie as tie
 
 abbrev Inv-loop : tie.InvT-loop
-Inv-loop slots₀ board memory₀ budget stop journal₀ mark log₀ n₀ c₀ m₀ slots memory journal log n c m =
-    Going board budget stop slots₀ memory₀ journal₀ mark log₀ slots memory journal m log n c
+Inv-loop slots₀ win memory₀ rom budget stop journal₀ mark log₀ n₀ c₀ m₀ slots memory journal log n c m =
+    Going (board-of win rom) budget stop slots₀ memory₀ journal₀ mark log₀ slots memory journal m log n c
 
 abbrev μ-loop : tie.MeasureT-loop
-μ-loop slots₀ board memory₀ budget stop journal₀ mark log₀ n₀ c₀ m₀ slots memory journal log n c m = budget - n
+μ-loop slots₀ win memory₀ rom budget stop journal₀ mark log₀ n₀ c₀ m₀ slots memory journal log n c m = budget - n
 
 loop-holds : tie.Need-loop-holds Inv-loop μ-loop
-loop-holds c = let z = c .before .before .before in going-start _ _ _ _ _ _ _ _ (z .pre .0) (z .pre .1) (z .pre .2) (z .pre .3) (z .pre .4)
+loop-holds c = let z = c .before .before .before .before in going-start _ _ _ _ _ _ _ _ (z .pre .0) (z .pre .1) (z .pre .2) (z .pre .3) (z .pre .4)
 
 sub-short : tie.Need-sub-short Inv-loop μ-loop
 sub-short c = let i = c .before .before .before .before .before .loop .inv in let h = i .inside in omega arith

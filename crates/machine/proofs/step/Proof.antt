@@ -30,7 +30,7 @@ taken c =
     let t = c .before .before .before .before .before .before .before .before .before .before .before in
     let r = c .before .before .before .before .before .before .before .before .before .before .before .before .before .before .before in
     let d = c .before .before .before .before .before .before .before .before .before .before .before .before .before .before .before .before .before .before .before in
-    let z = c .before .before .before .before .before .before .before .before .before .before .before .before .before .before .before .before .before .before .before .before .before .before .before .before .before .before in
+    let z = c .before .before .before .before .before .before .before .before .before .before .before .before .before .before .before .before .before .before .before .before .before .before .before .before .before .before .before in
     step-promised _ _ _ _ (z .args .vector) _ _ _ (d .before .step-number .ensures) (d .if1 .taken) _ _ (r .make-room .ensures) (t .if2 .left) (w .wide .result) (w .wide .ensures .0) _ _ _ _ (e .0) (e .1 .0) (e .1 .1 .0) (e .1 .1 .1 .0)
 
 pub step-spec : {M : Type 1} → statement M

@@ -13,6 +13,7 @@ part-spec =
     (λ c κs. search lies-end)
     (λ c. search part-in-memory)
     (λ c. search needs)
+    (λ c. search needs)
     (λ c κs. search needs)
     (λ c. search needs)
     (λ c κs. search lies-end)

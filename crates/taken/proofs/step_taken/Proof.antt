@@ -8,7 +8,7 @@ use Rattle.taken.proofs.step_taken.Tie as tie
 -- what is known after the step of what was lent
 module _ (o : tie.After-one-step) where
   abbrev z : tie.Start
-  z = o .before .before .before .before .before .before .before .before .before .before .before .before .before
+  z = o .before .before .before .before .before .before .before .before .before .before .before .before .before .before
 
   valid : Valid (now (z .args .slots)) (now (z .args .memory))
   valid =
@@ -18,7 +18,7 @@ module _ (o : tie.After-one-step) where
 
 one-step-requires : tie.Need-one-step-requires
 one-step-requires c κs =
-    let z = c .before .before .before .before .before .before .before .before .before .before .before .before in
+    let z = c .before .before .before .before .before .before .before .before .before .before .before .before .before in
     (log-ready _ _ (z .pre .0) (z .pre .2), search needs)
 
 put-record-requires : tie.Need-put-record-requires

@@ -3,16 +3,17 @@ use Prim.Native.Nat.{_-_}
 use mathlib.Core.Path.{_≡_}
 use lib.ListN.{length}
 use borrow.Author.Needs.{needs}
+use Rattle.bus.specs.Bus.{board-of}
 use Rattle.tries.proofs.TryLaws.{Backing, backing-start, backing-again, backs-all, backs-refused}
 use Rattle.tries.proofs.take_back.Statement.{statement}
 use Rattle.tries.proofs.take_back.Tie as tie
 
 abbrev Inv-loop : tie.InvT-loop
-Inv-loop slots₀ board memory₀ journal mark steps old n₀ at₀ slots memory n at =
-    Backing board old steps slots₀ memory₀ journal mark slots memory at n × (length memory ≡ length memory₀)
+Inv-loop slots₀ win memory₀ rom journal mark steps old n₀ at₀ slots memory n at =
+    Backing (board-of win rom) old steps slots₀ memory₀ journal mark slots memory at n × (length memory ≡ length memory₀)
 
 abbrev μ-loop : tie.MeasureT-loop
-μ-loop slots₀ board memory₀ journal mark steps old n₀ at₀ slots memory n at = steps - n
+μ-loop slots₀ win memory₀ rom journal mark steps old n₀ at₀ slots memory n at = steps - n
 
 -- k: after the undo; l: the head of the loop
 returns : tie.Need-returns Inv-loop μ-loop

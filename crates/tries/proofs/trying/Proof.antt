@@ -3,16 +3,17 @@ use Prim.Native.Nat.{_-_}
 use mathlib.Core.Path.{_≡_}
 use lib.ListN.{length}
 use borrow.Author.Needs.{needs}
+use Rattle.bus.specs.Bus.{board-of}
 use Rattle.tries.proofs.TryLaws.{Trying, trying-start, trying-again, tries-spent, tries-refused, tries-halts, tries-excepts, loud-event}
 use Rattle.tries.proofs.trying.Statement.{statement}
 use Rattle.tries.proofs.trying.Tie as tie
 
 abbrev Inv-loop : tie.InvT-loop
-Inv-loop slots₀ board memory₀ count journal₀ mark n₀ at₀ slots memory journal n at =
-    Trying board count slots₀ memory₀ journal₀ mark slots memory journal at n × ((length memory ≡ length memory₀) × (length journal ≡ length journal₀))
+Inv-loop slots₀ win memory₀ rom count journal₀ mark n₀ at₀ slots memory journal n at =
+    Trying (board-of win rom) count slots₀ memory₀ journal₀ mark slots memory journal at n × ((length memory ≡ length memory₀) × (length journal ≡ length journal₀))
 
 abbrev μ-loop : tie.MeasureT-loop
-μ-loop slots₀ board memory₀ count journal₀ mark n₀ at₀ slots memory journal n at = count - n
+μ-loop slots₀ win memory₀ rom count journal₀ mark n₀ at₀ slots memory journal n at = count - n
 
 loop-holds : tie.Need-loop-holds Inv-loop μ-loop
 loop-holds c = (trying-start _ _ _ _ _ _, (search needs, search needs))
@@ -32,8 +33,8 @@ returns-2 c =
     tries-halts (l .before .loop .inv .0) (l .loop-test .taken) (k .step-keeping .ensures) (d .if1 .left) (c .if2 .taken)
 
 -- d₂, d₁: after the second and the first test, which did not end the try
-sub-t19 : tie.Need-sub-t19 Inv-loop μ-loop
-sub-t19 c = loud-event _ (c .before .if3 .taken)
+sub-vector : tie.Need-sub-vector Inv-loop μ-loop
+sub-vector c = loud-event _ (c .before .if3 .taken)
 
 returns-3 : tie.Need-returns-3 Inv-loop μ-loop
 returns-3 c =
@@ -66,7 +67,7 @@ trying-spec =
     (λ c. search needs)
     (λ c. search needs)
     returns-2
-    sub-t19
+    sub-vector
     (λ c. search needs)
     (λ c. search needs)
     returns-3

@@ -11,6 +11,7 @@ use Rattle.vectors.proofs.reported.Reads as reported-reads
 use Rattle.vectors.proofs.room_of.Reads as room-of-reads
 use Rattle.vectors.proofs.small_case.Reads as small-case-reads
 use Rattle.vectors.proofs.text_of.Reads as text-of-reads
+use Rattle.vectors.proofs.wide_case.Reads as wide-case-reads
 use Rattle.vectors.proofs.+try_lines.{statement}
 use Rattle.vectors.proofs.+try_lines.Tie.{close}
 
@@ -38,6 +39,8 @@ pub +try-lines-spec : {M : Type 1} → statement M
   reported-reads.Learnt,
   small-case-reads.Asked,
   small-case-reads.Learnt,
+  wide-case-reads.Asked,
+  wide-case-reads.Learnt,
   large-case-reads.Asked,
   large-case-reads.Learnt,
 )
@@ -57,6 +60,10 @@ pub +try-lines-spec : {M : Type 1} → statement M
     (λ c. search needs)
     (λ c κs. search needs)
     (λ c κs. search needs)
+    (λ c κs. search needs)
+    (λ c. search needs)
+    (λ c. search needs)
+    (λ c. search needs)
     (λ c κs. search needs)
     (λ c. search needs)
     (λ c. search needs)

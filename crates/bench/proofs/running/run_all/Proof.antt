@@ -5,10 +5,10 @@ use Rattle.bench.proofs.running.run_all.Statement.{statement}
 use Rattle.bench.proofs.running.run_all.Tie as tie
 
 abbrev Inv-loop : tie.InvT-loop
-Inv-loop slots₀ win memory₀ journal₀ way now₀ turns₀ slots memory journal now turns = (length memory ≡ length memory₀) × (length journal ≡ length journal₀)
+Inv-loop slots₀ win memory₀ rom journal₀ way now₀ turns₀ slots memory journal now turns = (length memory ≡ length memory₀) × (length journal ≡ length journal₀)
 
 abbrev μ-loop : tie.MeasureT-loop
-μ-loop slots₀ win memory₀ journal₀ way now₀ turns₀ slots memory journal now turns = turns
+μ-loop slots₀ win memory₀ rom journal₀ way now₀ turns₀ slots memory journal now turns = turns
 
 pub run-all-spec : {M : Type 1} → statement M
 run-all-spec =

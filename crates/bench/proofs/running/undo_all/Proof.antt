@@ -5,10 +5,10 @@ use Rattle.bench.proofs.running.undo_all.Statement.{statement}
 use Rattle.bench.proofs.running.undo_all.Tie as tie
 
 abbrev Inv-loop : tie.InvT-loop
-Inv-loop slots₀ win memory₀ journal mark at₀ turns₀ slots memory at turns = length memory ≡ length memory₀
+Inv-loop slots₀ win memory₀ rom journal mark at₀ turns₀ slots memory at turns = length memory ≡ length memory₀
 
 abbrev μ-loop : tie.MeasureT-loop
-μ-loop slots₀ win memory₀ journal mark at₀ turns₀ slots memory at turns = turns
+μ-loop slots₀ win memory₀ rom journal mark at₀ turns₀ slots memory at turns = turns
 
 pub undo-all-spec : {M : Type 1} → statement M
 undo-all-spec =
