@@ -2,11 +2,11 @@
  * A case is a line of ten fields or fourteen, and perhaps clocks, a window and a ROM after them (crates/vectors/README.md), read from standard
  * input; without a window it is all of memory, and a ROM stands only after one. A line whose name begins with `wrong:` must not hold, every
  * other must; and where two numbers are given as arguments, so many must hold and so many must not. Each line that does not hold is told with
- * what differed first, the first two hundred of them. The mark is 1,000, so that what stands before it is seen to stay; memory and ROM end
+ * what differed first, the first three hundred of them. The mark is 1,000, so that what stands before it is seen to stay; memory and ROM end
  * where pages that can not be touched begin, and during the calls the ROM can not be written. */
 #include "tests.h"
 
-enum { FIELDS = 10, FIELDS_WITH_UNDO = 14, FIELDS_MOST = 17, TOLD = 200 };
+enum { FIELDS = 10, FIELDS_WITH_UNDO = 14, FIELDS_MOST = 17, TOLD = 300 };
 enum { MARK = 1000, JOURNAL = 4096, LEAST = 1024, LARGEST = 16777216, LONGEST = 8192 };
 
 static uint8_t block[IBZ_BLOCK_LENGTH], goal[IBZ_BLOCK_LENGTH], start[IBZ_BLOCK_LENGTH], journal[JOURNAL], record[JOURNAL];
