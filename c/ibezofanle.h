@@ -1,30 +1,41 @@
-/* ibezofanle.h - an MC68000 whose every step can be taken back: reset, step, run and undo, a fence to try programs in, and journals for
- * posting, for C11 and C++17.
+/* ibezofanle.h - an MC68000 whose every step can be taken back: reset, step, run and undo, a ROM beside memory, a fence to try programs in,
+ * and journals for posting, for C11 and C++17.
  *
- * You lend five things, and keep them between calls:
+ * You lend six things, and keep them between calls:
  *
  *   block    80 bytes: the processor's state, twenty slots of four bytes, high byte first (enum ibz_slot)
- *   memory   the 68000's memory, from address 0; its length is even, from 1,024 to 16,777,216
+ *   memory   the 68000's memory, from address 0; its length is even, from 1,024 to 16,777,216, beside a ROM to 15,728,640
+ *   rom      a ROM, from address 0xF00000 on, which is only read; its length is even, from 0, which is none, to 1,048,576. Who has none
+ *            gives IBZ_NO_ROM in the place of the two arguments
  *   journal  bytes for the records by which steps are taken back, the oldest first; a step wants 536 of them free
  *   mark     how many bytes of the journal are in use. 0 at first; then always the mark that the last call returned
- *   window   two numbers, lo and hi: the part of memory, from lo to below hi, that a program in user state can reach. ibz_reset tells
- *            them, 0 and memory's length, which is all of it; no step and no undo changes them. The library does not keep them: each
- *            call is given them, and another window is set by giving it another
+ *   window   two numbers, lo and hi: the addresses, from lo to below hi, that a program in user state can reach. ibz_reset tells them,
+ *            0 and memory's length, which is all of memory; no step and no undo changes them. The library does not keep them: each
+ *            call is given them, and another window is set by giving it another. hi is at most memory's length; where there is a ROM,
+ *            at most 0xF00000 plus its length
  *
  * ibz_reset sets the state as the processor's reset does. ibz_step does one instruction, or takes one interrupt, and writes at the
  * mark how to take it back. ibz_run does many. ibz_undo takes the last step back: block and memory are then, byte for byte, what
  * they were before it. After any mix of these, block and memory are what the steps that were not undone would have left.
  *
+ * The ROM is read as memory is, in both states: operation words, extension words, operands, the stack. Between memory and ROM, and past the
+ * ROM's end, there is nothing, and an access is a bus error (vector 2). Nothing writes the ROM: to write a byte or a word of it is a bus error
+ * too, whose information word has a write, and a word at an odd address is an address error before that (vector 3). An instruction that
+ * reads what it is to write reads it there, and fails as it writes. An exception whose frame would lie in it halts the machine, as every
+ * frame that can not be written. So no record names an address of the ROM, and a record that does is refused (IBZ_BAD_RECORD). A reset's
+ * window has nothing of it: a program in user state reaches the ROM once you give a hi above 0xF00000. Give every call the same ROM, as
+ * every call the same memory. A ROM of 0 bytes is none: memory may then reach beyond 0xF00000, and hi goes by its length.
+ *
  * The window fences user state, where SR has no bit 0x2000 (S). There a byte or a word that is read or written and does not lie wholly in
- * it, be it an operation word, an extension word, an operand or on the stack, is a bus error (vector 2), as outside memory; a word at an odd
+ * it, be it an operation word, an extension word, an operand or on the stack, is a bus error, as outside memory and ROM; a word at an odd
  * address is an address error before that (vector 3). The address is judged in 24 bits. lo and hi may be odd, and a word that lo or hi cuts
  * is outside; of a long each word is judged by itself, and the frame has the first that fails. Supervisor state is not fenced, nor are the
  * frames and vectors of exceptions and interrupts, which are supervisor's from user state too.
  *
  * ibz_try does steps of a program that is not to be trusted, in a window, and tells how they ended; ibz_take_back takes them back. Before
  * the first step that takes an exception or halts, a program that starts in user state changes neither T, S and the mask in SR nor SSP, and
- * no byte outside the window. Nor do SSP and these bytes matter to it: its steps, their records and their clocks are the same whatever they
- * hold.
+ * no byte outside the window. Nor do SSP and these bytes, of memory and of the ROM, matter to it: its steps, their records and their clocks
+ * are the same whatever they hold.
  *
  * Where fewer than 536 bytes of journal are free after the mark, a step or a run goes by one of two manners:
  *
@@ -50,15 +61,15 @@
  * a block that is not 80 bytes long (IBZ_NO_BLOCK) is never written. Of a try and of taking back, what came before the refused step or
  * undo stays done. A refused conversion leaves every byte of the target as it was.
  *
- * The calls take any values whatever: any bytes in block, memory, journal and target, any lengths, any mark, any window. Each ends, and touches
- * nothing but what it was lent. That is proved of the library, for a caller who keeps to what no C function can check:
+ * The calls take any values whatever: any bytes in block, memory, ROM, journal and target, any lengths, any mark, any window. Each ends, and
+ * touches nothing but what it was lent. That is proved of the library, for a caller who keeps to what no C function can check:
  *
  *   - a pointer is good for its length: for reading, and for writing where it is not const. It may be NULL if its length is 0.
  *     It may have any alignment.
  *   - a length is at most PTRDIFF_MAX, as that of every C object is.
- *   - block, memory and journal do not overlap; nor do the journal and the target of a conversion, not by one byte.
+ *   - block, memory, ROM and journal do not overlap; nor do the journal and the target of a conversion, not by one byte.
  *   - nobody else uses them during the call. The library itself keeps nothing between calls and has no variables: several threads
- *     may call it at the same time, each on a machine of its own.
+ *     may call it at the same time, each on a machine of its own. One ROM may be lent to several machines, as long as nobody writes it.
  *
  * It needs no start, allocates nothing, takes some 2 KiB of stack, an ibz_run 15 KiB, and calls nothing from outside but memset.
  *
@@ -74,7 +85,7 @@
 extern "C" {
 #endif
 
-#define IBZ_VERSION 5
+#define IBZ_VERSION 6
 
 /* ---- sizes and limits */
 
@@ -84,9 +95,15 @@ extern "C" {
 #define IBZ_RECORD_TWO_MOST 606u   /* bytes of the longest record of form 2 */
 #define IBZ_MEMORY_LEAST 1024u     /* bytes of memory, an even number of them */
 #define IBZ_MEMORY_MOST 16777216u
+#define IBZ_MEMORY_MOST_BESIDE_ROM 15728640u /* where the ROM has more than 0 bytes */
+#define IBZ_ROM_START 0xF00000u    /* the address of the ROM's first byte */
+#define IBZ_ROM_MOST 1048576u      /* bytes of the ROM, an even number of them */
 #define IBZ_LEVEL_MOST 7u          /* an interrupt's level */
 #define IBZ_BUDGET_MOST 1000000u   /* steps of a run, or of a try */
 #define IBZ_CLOCKS_MOST 204u       /* clocks of a step; a run has at most IBZ_BUDGET_MOST times as many */
+
+/* No ROM: the two arguments `rom` and `rom_length` of a call. */
+#define IBZ_NO_ROM NULL, 0
 
 /* ---- the block */
 
@@ -109,27 +126,41 @@ enum ibz_mode {
 
 /* ---- answers */
 
-/* `number` of every answer. Where several apply: the first of 9, 1, 2, 10, 3, 4, 5, 6, 7, 8, 11 that the call can give. ibz_try is refused as
- * ibz_step_keeping is, ibz_take_back as ibz_undo is. Of a conversion (form below) 8 comes before 11: all records are judged first. */
+/* `number` of every answer. Each call asks in the order of its row, and gives the first number that applies, or 0:
+ *
+ *   ibz_reset                           9   1  12
+ *   ibz_step                            9   1  12   2  10   3   4   5   6   8
+ *   ibz_step_keeping, ibz_try           9   1  12   2  10   3   4   5   6
+ *   ibz_run, ibz_run_keeping            9   1  12   2  10   3   4
+ *   ibz_undo, ibz_take_back             9   1  12   2  10   4   7   8
+ *   ibz_part                            1  12  13
+ *   ibz_to_form_two, ibz_to_form_one    8  11
+ *
+ * ibz_try asks so before its first step, and where it is to do none; then whether it starts in supervisor state. A later step of it can be
+ * refused by 5 only. ibz_take_back asks so before each undo; where it is to do none, it asks for 9 alone. A conversion judges all records
+ * before it asks for 11. */
 enum ibz_number {
   IBZ_DONE = 0,
-  IBZ_BAD_MEMORY = 1,   /* reset step run undo   memory's length is odd, below 1,024 or above 16,777,216 */
-  IBZ_BAD_STATE = 2,    /*       step run undo   SR has a bit outside 0xA71F, or mode is above 2; each is judged in all its 32 bits */
-  IBZ_BAD_REQUEST = 3,  /*       step run        level is above 7 (step); budget or count is above 1,000,000 (run, ibz_try) */
-  IBZ_BAD_MARK = 4,     /*       step run undo   mark is greater than the journal's length */
-  IBZ_JOURNAL_FULL = 5, /*       step            the journal is shorter than 536 bytes (ibz_step); fewer than 536 bytes of it are after
-                         *                       the mark (ibz_step_keeping) */
-  IBZ_IS_HALTED = 6,    /*       step            mode is 2 */
-  IBZ_NO_RECORD = 7,    /*                undo   mark is 0: nothing is left to take back */
-  IBZ_BAD_RECORD = 8,   /*                undo   what stands below the mark is no well-formed record for this state and memory
-                         *       step            fewer than 536 bytes of journal are after the mark, and below it, on the way back to
-                         *                       place 0, stands no well-shaped record for this length of memory: one that is well formed
-                         *                       but for the comparison with what state and memory hold (ibz_step alone)
-                         * form                  read from the journal's end, on the way back to place 0, stands no well-shaped record of
-                         *                       the form that it is to be in, with addresses below 16,777,216, whatever the memory */
-  IBZ_NO_BLOCK = 9,     /* reset step run undo   the block is not 80 bytes long; nothing else is looked at */
-  IBZ_BAD_WINDOW = 10,  /*       step run undo   lo is above hi, or hi is above memory's length. lo and hi may be equal: nothing is inside */
-  IBZ_TARGET_SHORT = 11 /* form                  the target is shorter than the journal in the other form */
+  IBZ_BAD_MEMORY = 1,    /* memory's length is odd, below 1,024 or above 16,777,216 */
+  IBZ_BAD_STATE = 2,     /* SR has a bit outside 0xA71F, or mode is above 2; each is judged in all its 32 bits */
+  IBZ_BAD_REQUEST = 3,   /* level is above 7 (a step); budget or count is above 1,000,000 (a run, ibz_try) */
+  IBZ_BAD_MARK = 4,      /* mark is greater than the journal's length */
+  IBZ_JOURNAL_FULL = 5,  /* the journal is shorter than 536 bytes (ibz_step); fewer than 536 bytes of it are after the mark (ibz_step_keeping,
+                          * ibz_try) */
+  IBZ_IS_HALTED = 6,     /* mode is 2 */
+  IBZ_NO_RECORD = 7,     /* mark is 0: nothing is left to take back */
+  IBZ_BAD_RECORD = 8,    /* undo: what stands below the mark is no well-formed record for this state and memory.
+                          * ibz_step: fewer than 536 bytes of journal are after the mark, and below it, on the way back to place 0, stands no
+                          * well-shaped record for this length of memory: one that is well formed but for the comparison with what state and
+                          * memory hold.
+                          * A conversion: read from the journal's end, on the way back to place 0, stands no well-shaped record of the form
+                          * that it is to be in, with addresses below 16,777,216, whatever the memory */
+  IBZ_NO_BLOCK = 9,      /* the block is not 80 bytes long; nothing else is looked at */
+  IBZ_BAD_WINDOW = 10,   /* lo is above hi; or hi is above memory's length, or where there is a ROM, above 0xF00000 plus its length. lo and hi
+                          * may be equal: nothing is inside */
+  IBZ_TARGET_SHORT = 11, /* the target is shorter than the journal in the other form */
+  IBZ_BAD_ROM = 12,      /* the ROM's length is odd or above 1,048,576; or it is above 0, and memory's length is above 15,728,640 */
+  IBZ_NO_PART = 13       /* neither memory nor the ROM holds that part */
 };
 
 /* `reason` of a run that was done: the first of these, in this order, that held before a further step. */
@@ -175,7 +206,7 @@ enum ibz_end {
 
 struct ibz_reset_answer {
   uint32_t number; /* enum ibz_number */
-  uint32_t lo;     /* the window after it: 0 and memory's length; 0 and 0 if refused */
+  uint32_t lo;     /* the window after it: 0 and memory's length, whatever the ROM; 0 and 0 if refused */
   uint32_t hi;
 };
 
@@ -224,54 +255,74 @@ struct ibz_form_answer {
   size_t length;   /* bytes of the other form, from the target's start on; 0 if refused */
 };
 
+/* A part of memory or of the ROM, where it lies in what was lent. */
+struct ibz_slice {
+  const uint8_t *bytes;
+  size_t length;
+};
+
 /* ---- the calls */
 
-/* SSP from address 0 of memory, PC from 4, SR 0x2700, every other slot 0; the window is all of memory. What the block holds before does
- * not matter, and memory is only read. A journal starts anew with it: go on with mark 0. Refused by 1, 9. */
-struct ibz_reset_answer ibz_reset(uint8_t *block, size_t block_length, const uint8_t *memory, size_t memory_length);
+/* SSP from address 0 of memory, PC from 4, SR 0x2700, every other slot 0; the window is all of memory, and nothing of the ROM. What the
+ * block holds before does not matter, and memory is only read. A journal starts anew with it: go on with mark 0. */
+struct ibz_reset_answer ibz_reset(uint8_t *block, size_t block_length, const uint8_t *memory, size_t memory_length, const uint8_t *rom,
+                                  size_t rom_length);
 
 /* One step. `level` asks for an interrupt, 1 to 7, by `vector`; it is taken if it is 7 or above the mask in SR. At level 0, or if it
  * is not taken, one instruction is done; a stopped machine stays as it is, and that is a step too. Where the journal is full, the oldest
- * records are dropped first. Refused by 1 to 6, 8, 9, 10. */
+ * records are dropped first. */
 struct ibz_step_answer ibz_step(uint8_t *block, size_t block_length, uint32_t lo, uint32_t hi, uint8_t *memory, size_t memory_length,
-                                uint32_t level, uint8_t vector, uint8_t *journal, size_t journal_length, size_t mark);
+                                const uint8_t *rom, size_t rom_length, uint32_t level, uint8_t vector, uint8_t *journal,
+                                size_t journal_length, size_t mark);
 
-/* The same step, but every record is kept: where the journal is full it is refused by 5. Refused by 1 to 6, 9, 10. */
+/* The same step, but every record is kept: where the journal is full it is refused by 5. */
 struct ibz_step_answer ibz_step_keeping(uint8_t *block, size_t block_length, uint32_t lo, uint32_t hi, uint8_t *memory,
-                                        size_t memory_length, uint32_t level, uint8_t vector, uint8_t *journal, size_t journal_length,
-                                        size_t mark);
+                                        size_t memory_length, const uint8_t *rom, size_t rom_length, uint32_t level, uint8_t vector,
+                                        uint8_t *journal, size_t journal_length, size_t mark);
 
 /* Steps of ibz_step with level 0, at most `budget` of them, until a reason holds (enum ibz_reason). To stop at no address, give one
- * that the program never reaches, as 0xFFFFFFFF. Refused by 1 to 4, 9, 10. */
+ * that the program never reaches, as 0xFFFFFFFF. */
 struct ibz_run_answer ibz_run(uint8_t *block, size_t block_length, uint32_t lo, uint32_t hi, uint8_t *memory, size_t memory_length,
-                              uint32_t budget, uint32_t stop, uint8_t *journal, size_t journal_length, size_t mark);
+                              const uint8_t *rom, size_t rom_length, uint32_t budget, uint32_t stop, uint8_t *journal,
+                              size_t journal_length, size_t mark);
 
-/* The same of ibz_step_keeping: where the journal is full the run ends, by IBZ_REASON_JOURNAL. Refused by 1 to 4, 9, 10. */
+/* The same of ibz_step_keeping: where the journal is full the run ends, by IBZ_REASON_JOURNAL. */
 struct ibz_run_answer ibz_run_keeping(uint8_t *block, size_t block_length, uint32_t lo, uint32_t hi, uint8_t *memory,
-                                      size_t memory_length, uint32_t budget, uint32_t stop, uint8_t *journal, size_t journal_length,
-                                      size_t mark);
+                                      size_t memory_length, const uint8_t *rom, size_t rom_length, uint32_t budget, uint32_t stop,
+                                      uint8_t *journal, size_t journal_length, size_t mark);
 
-/* Takes the last step back, by the record that ends at the mark, whichever call wrote it, in whichever window. The journal is only read.
- * Refused by 1, 2, 4, 7, 8, 9, 10: 7 also where steps were done but their records are dropped. */
+/* Takes the last step back, by the record that ends at the mark, whichever call wrote it, in whichever window. The journal is only read, and
+ * of the ROM only its length counts. 7 is given also where steps were done but their records are dropped. */
 struct ibz_undo_answer ibz_undo(uint8_t *block, size_t block_length, uint32_t lo, uint32_t hi, uint8_t *memory, size_t memory_length,
-                                const uint8_t *journal, size_t journal_length, size_t mark);
+                                const uint8_t *rom, size_t rom_length, const uint8_t *journal, size_t journal_length, size_t mark);
 
 /* ---- the tryer */
 
 /* Steps of ibz_step_keeping with level 0 in the window lo, hi: at most `count` of them, up to the first that takes an exception or halts
  * the machine, or is refused. A start in supervisor state, if nothing refuses its first step, takes none and says so. Every record is kept,
  * so that the way back is whole. A count of 0 takes no step: it ends by IBZ_END_SPENT, or by what refuses a first step, or as supervised.
- * A stopped machine stays as it is, and these are steps too. Refused by 1 to 6, 9, 10: 5 also after steps. */
+ * A stopped machine stays as it is, and these are steps too. */
 struct ibz_try_answer ibz_try(uint8_t *block, size_t block_length, uint32_t lo, uint32_t hi, uint8_t *memory, size_t memory_length,
-                              uint32_t count, uint8_t *journal, size_t journal_length, size_t mark);
+                              const uint8_t *rom, size_t rom_length, uint32_t count, uint8_t *journal, size_t journal_length, size_t mark);
 
 /* As many undos as `steps` says, each in the window lo, hi; then the window is the old one, which the answer has and is not judged. The
  * first undo that is refused ends it, and the window stays lo, hi. With a try's window, steps and mark, and with the window of before it as
  * the old one, block, memory, mark and window are, byte for byte, what they were before the try. With 0 steps nothing but the block's
- * length is looked at. The journal is only read. Refused by 1, 2, 4, 7, 8, 9, 10. */
+ * length is looked at. The journal is only read, and of the ROM only its length counts. */
 struct ibz_back_answer ibz_take_back(uint8_t *block, size_t block_length, uint32_t lo, uint32_t hi, uint8_t *memory, size_t memory_length,
-                                     const uint8_t *journal, size_t journal_length, size_t mark, uint32_t steps, uint32_t old_lo,
-                                     uint32_t old_hi);
+                                     const uint8_t *rom, size_t rom_length, const uint8_t *journal, size_t journal_length, size_t mark,
+                                     uint32_t steps, uint32_t old_lo, uint32_t old_hi);
+
+/* ---- for a fault page */
+
+/* The very part of memory or of the ROM that holds `length` bytes from `address` on: what `part` then has points into what was lent. Memory
+ * is tried first: it holds the part if address + length is at most its length. Else the ROM holds it if address is 0xF00000 or above, and
+ * address - 0xF00000 + length is at most the ROM's length. All 64 bits of both count: the address is not cut to 24 bits, and no sum wraps.
+ * A part of 0 bytes may lie at the end of either slice; at 0xF00000 that is so of a ROM of 0 bytes too. The window plays no role.
+ *   It returns the number (enum ibz_number). A part that is refused is empty, at memory's start. `part` is not NULL, lies outside of memory and
+ * ROM, and holds a part before the call too: {NULL, 0}, or what an earlier call gave of bytes that are still there. */
+uint32_t ibz_part(const uint8_t *memory, size_t memory_length, const uint8_t *rom, size_t rom_length, uint64_t address, uint64_t length,
+                  struct ibz_slice *part);
 
 /* ---- journals for posting */
 
@@ -279,11 +330,11 @@ struct ibz_back_answer ibz_take_back(uint8_t *block, size_t block_length, uint32
  * the first `length` bytes of the target are the other form; the target's bytes past them stay. An empty journal gives 0 and length 0.
  *   A target of half again the journal's length, journal_length + journal_length / 2, is always long enough. A run of one byte is one byte
  * longer than its entry in form 1, a longer run not longer than its entries; so a record with k changed bytes grows by at most k, and it has
- * 2 k + 2 bytes or more in form 1. Refused by 8, 11. */
+ * 2 k + 2 bytes or more in form 1. */
 struct ibz_form_answer ibz_to_form_two(const uint8_t *journal, size_t journal_length, uint8_t *target, size_t target_length);
 
 /* And back: a whole journal of form 2 in form 1. All else is as above. A target of five times the journal's length is always long enough:
- * an old byte, which form 2 has too, gets an address of at most four bytes beside it. Refused by 8, 11. */
+ * an old byte, which form 2 has too, gets an address of at most four bytes beside it. */
 struct ibz_form_answer ibz_to_form_one(const uint8_t *journal, size_t journal_length, uint8_t *target, size_t target_length);
 
 /* ---- small helpers; `slot` is below IBZ_SLOTS */
@@ -343,8 +394,10 @@ static inline const char *ibz_number_text(uint32_t number) {
   case IBZ_NO_RECORD: return "nothing is left to take back";
   case IBZ_BAD_RECORD: return "a record of the journal is not a good one";
   case IBZ_NO_BLOCK: return "the block is not 80 bytes long";
-  case IBZ_BAD_WINDOW: return "the window ends before it begins, or beyond memory";
+  case IBZ_BAD_WINDOW: return "the window ends before it begins, or beyond memory and ROM";
   case IBZ_TARGET_SHORT: return "the target is too short for the other form";
+  case IBZ_BAD_ROM: return "the length of the ROM is odd or too large, or memory is too large beside it";
+  case IBZ_NO_PART: return "neither memory nor the ROM holds that part";
   default: return "an unknown refusal";
   }
 }

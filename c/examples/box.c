@@ -1,18 +1,19 @@
-/* box.c - a small host to start from: loads an image, steps, runs, shows the machine, goes back, tries programs in a window, and writes the
- * journal to a file, for posting.
+/* box.c - a small host to start from: loads an image and a ROM, steps, runs, shows the machine, goes back, tries programs in a window, and
+ * writes the journal to a file, for posting.
  *
- *   box [-d] [-m BYTES] [-j BYTES] [-a ADDRESS] IMAGE
+ *   box [-d] [-m BYTES] [-j BYTES] [-a ADDRESS] [-r ROM] IMAGE
  *
  * IMAGE is raw bytes; they go to ADDRESS (0) of a memory of BYTES (65,536), and the machine is reset: SSP is the long at address 0,
- * PC the long at 4. -j says how many bytes of journal there are (1,048,576). It keeps every record, and does no step where the journal is
- * full; with -d it drops the oldest instead. Then it reads commands, one to a line; `help` lists them. */
+ * PC the long at 4. The bytes of ROM, if one is named, stand at $F00000, and can not be written. -j says how many bytes of journal there are
+ * (1,048,576). It keeps every record, and does no step where the journal is full; with -d it drops the oldest instead. Then it reads
+ * commands, one to a line; `help` lists them. */
 #include "ibezofanle.h"
 #include <stdio.h>
 #include <stdlib.h>
 #include <string.h>
 
-static uint8_t block[IBZ_BLOCK_LENGTH], *memory, *journal;
-static size_t memory_length = 65536, journal_length = 1048576, mark;
+static uint8_t block[IBZ_BLOCK_LENGTH], *memory, *journal, *rom;
+static size_t memory_length = 65536, journal_length = 1048576, rom_length, mark;
 static uint32_t lo, hi;              /* the window */
 static int drops;                    /* -d */
 static unsigned long standing, gone; /* steps that stand, and of these the ones that can not be taken back any more */
@@ -36,14 +37,32 @@ static const char help[] =
     "forget                keep the machine as it is, and give up the way back: the journal is empty again\n"
     "journal FILE          write the journal's used bytes to FILE, as they are: form 1\n"
     "post FILE             write them to FILE in form 2, for posting\n"
-    "window LO HI          in user state, let the program reach memory from LO to below HI only\n"
+    "window LO HI          in user state, let the program reach memory and ROM from LO to below HI only\n"
     "try LO HI [N]         do N steps (1000) in that window, up to the first exception; tell how it ended, and take all back\n"
     "regs                  show the registers\n"
-    "mem ADDRESS [N]       show N bytes of memory (64)\n"
+    "mem ADDRESS [N]       show N bytes of memory or of the ROM (64)\n"
     "reset                 reset the machine, and give up the way back; memory stays\n"
     "help, quit            numbers are decimal, or hex as 0x1F or $1F\n";
 
 /* ---- what is shown */
+
+/* As many of n bytes from an address on as memory or the ROM has there: perhaps none. */
+static struct ibz_slice part_at(uint64_t address, uint64_t n) {
+  struct ibz_slice part = {NULL, 0};
+  const uint64_t end = address < memory_length ? memory_length : IBZ_ROM_START + rom_length;
+  if (address < end && n > end - address) n = end - address;
+  ibz_part(memory, memory_length, rom, rom_length, address, n, &part); /* one that is refused is empty */
+  return part;
+}
+
+/* Rows of 16 bytes, each with its address; a sign before the byte at `marked`. */
+static void show_bytes(const char *before, uint64_t address, struct ibz_slice part, uint64_t marked) {
+  for (size_t i = 0; i < part.length; i++) {
+    if (i % 16 == 0) printf("%s%s%06llX ", i == 0 ? "" : "\n", before, (unsigned long long)(address + i));
+    printf("%c%02X", address + i == marked ? '>' : ' ', part.bytes[i]);
+  }
+  puts("");
+}
 
 static void show_status(void) {
   static const char *const modes[] = {"running", "stopped", "halted"};
@@ -55,9 +74,10 @@ static void show_status(void) {
 
 /* One line: how many steps stand, where the machine is, the word there, and the clocks, with those since `before`. */
 static void show_place(unsigned long long before) {
-  const uint32_t pc = ibz_get(block, IBZ_PC), at = pc & 0xFFFFFFu;
+  const uint32_t pc = ibz_get(block, IBZ_PC);
+  const struct ibz_slice word = part_at(pc & 0xFFFFFFu, 2);
   printf("%8lu  PC %08X  ", standing, (unsigned)pc);
-  if (at + 1u < memory_length) printf("%02X%02X", memory[at], memory[at + 1u]);
+  if (word.length == 2) printf("%02X%02X", word.bytes[0], word.bytes[1]);
   else printf("----");
   printf("  ");
   show_status();
@@ -78,25 +98,22 @@ static void show_registers(void) {
 }
 
 static void show_memory(unsigned long at, unsigned long n) {
-  if (at >= memory_length) {
-    printf("memory ends at %06zX\n", memory_length);
-    return;
-  }
-  if (n > memory_length - at) n = memory_length - at;
-  for (unsigned long i = 0; i < n; i++) {
-    if (i % 16 == 0) printf("%s%06lX ", i == 0 ? "" : "\n", at + i);
-    printf(" %02X", memory[at + i]);
-  }
-  puts("");
+  const struct ibz_slice part = part_at(at, n);
+  if (part.length == 0 && n > 0) printf("nothing is at %06lX\n", at);
+  else show_bytes("", at, part, UINT64_MAX);
 }
 
-/* The page of a fault, from its frame on the stack. */
+/* The page of a fault: its frame on the stack, and the bytes about the access that failed. */
 static void show_fault(void) {
   static const char *const codes[] = {"", "user data", "user program", "", "", "supervisor data", "supervisor program", ""};
   struct ibz_fault f;
   if (!ibz_get_fault(block, memory, memory_length, &f)) return;
   printf("          %s at %06X failed, %s; instruction %04X, PC %08X, SR %04X\n", f.information & 16u ? "a read" : "a write",
          (unsigned)f.address, codes[f.information & 7u], (unsigned)f.op, (unsigned)f.pc, (unsigned)f.sr);
+  const uint32_t row = f.address & ~15u;
+  const struct ibz_slice part = part_at(row, 16);
+  if (part.length > 0) show_bytes("          ", row, part, f.address);
+  if (part.length <= f.address - row) printf("          nothing is at %06X\n", (unsigned)f.address);
 }
 
 static void show_refusal(uint32_t number) {
@@ -117,7 +134,7 @@ static void forget(void) {
 }
 
 static void reset(void) {
-  const struct ibz_reset_answer a = ibz_reset(block, sizeof block, memory, memory_length);
+  const struct ibz_reset_answer a = ibz_reset(block, sizeof block, memory, memory_length, rom, rom_length);
   if (a.number != IBZ_DONE) show_refusal(a.number);
   lo = a.lo;
   hi = a.hi;
@@ -149,8 +166,8 @@ static int step(uint32_t level, uint8_t vector) {
   const unsigned long long before = clocks;
   const int interrupt = level == IBZ_LEVEL_MOST || level > (ibz_get(block, IBZ_SR) >> 8 & 7u);
   const struct ibz_step_answer a =
-      drops ? ibz_step(block, sizeof block, lo, hi, memory, memory_length, level, vector, journal, journal_length, mark)
-            : ibz_step_keeping(block, sizeof block, lo, hi, memory, memory_length, level, vector, journal, journal_length, mark);
+      drops ? ibz_step(block, sizeof block, lo, hi, memory, memory_length, rom, rom_length, level, vector, journal, journal_length, mark)
+            : ibz_step_keeping(block, sizeof block, lo, hi, memory, memory_length, rom, rom_length, level, vector, journal, journal_length, mark);
   if (a.number != IBZ_DONE) {
     show_refusal(a.number);
     return 0;
@@ -170,8 +187,8 @@ static void run(unsigned long n, uint32_t stop) {
   unsigned long done = 0;
   do {
     const uint32_t budget = n - done < IBZ_BUDGET_MOST ? (uint32_t)(n - done) : IBZ_BUDGET_MOST;
-    a = drops ? ibz_run(block, sizeof block, lo, hi, memory, memory_length, budget, stop, journal, journal_length, mark)
-              : ibz_run_keeping(block, sizeof block, lo, hi, memory, memory_length, budget, stop, journal, journal_length, mark);
+    a = drops ? ibz_run(block, sizeof block, lo, hi, memory, memory_length, rom, rom_length, budget, stop, journal, journal_length, mark)
+              : ibz_run_keeping(block, sizeof block, lo, hi, memory, memory_length, rom, rom_length, budget, stop, journal, journal_length, mark);
     if (a.number != IBZ_DONE) {
       show_refusal(a.number);
       return;
@@ -184,7 +201,8 @@ static void run(unsigned long n, uint32_t stop) {
 }
 
 static int undo(void) {
-  const struct ibz_undo_answer a = ibz_undo(block, sizeof block, lo, hi, memory, memory_length, journal, journal_length, mark);
+  const struct ibz_undo_answer a =
+      ibz_undo(block, sizeof block, lo, hi, memory, memory_length, rom, rom_length, journal, journal_length, mark);
   mark = a.mark;
   standing -= a.number == IBZ_DONE;
   if (a.number != IBZ_DONE) show_refusal(a.number);
@@ -198,8 +216,8 @@ static void back(unsigned long n) {
   while (last > 0 && places[last - 1].standing >= standing) last--;
   clocks = places[last].clocks;
   for (n = 0; standing < places[last].standing; n++) {
-    const struct ibz_step_answer a = ibz_step_keeping(block, sizeof block, places[last].lo, places[last].hi, memory, memory_length, 0, 0,
-                                                      journal, journal_length, mark);
+    const struct ibz_step_answer a = ibz_step_keeping(block, sizeof block, places[last].lo, places[last].hi, memory, memory_length, rom,
+                                                      rom_length, 0, 0, journal, journal_length, mark);
     mark = a.mark;
     standing++;
     clocks -= a.clocks;
@@ -213,7 +231,7 @@ static void back(unsigned long n) {
 /* Steps in another window, from where the machine is; then all is what it was, this window too. */
 static void try_in(uint32_t from, uint32_t to, uint32_t count) {
   const struct ibz_try_answer a =
-      ibz_try(block, sizeof block, from, to, memory, memory_length, count, journal, journal_length, mark);
+      ibz_try(block, sizeof block, from, to, memory, memory_length, rom, rom_length, count, journal, journal_length, mark);
   printf("          %u steps: %s", (unsigned)a.steps, ibz_end_text(a.end));
   if (a.end == IBZ_END_EXCEPTION) printf(", vector %u", (unsigned)a.vector);
   printf("; PC %08X  ", (unsigned)ibz_get(block, IBZ_PC));
@@ -221,8 +239,8 @@ static void try_in(uint32_t from, uint32_t to, uint32_t count) {
   puts("");
   if (a.end == IBZ_END_REFUSED) show_refusal(a.number);
   if (a.vector == 2 || a.vector == 3) show_fault();
-  const struct ibz_back_answer b =
-      ibz_take_back(block, sizeof block, from, to, memory, memory_length, journal, journal_length, a.mark, a.steps, lo, hi);
+  const struct ibz_back_answer b = ibz_take_back(block, sizeof block, from, to, memory, memory_length, rom, rom_length, journal,
+                                                 journal_length, a.mark, a.steps, lo, hi);
   mark = b.mark;
   lo = b.lo;
   hi = b.hi;
@@ -312,50 +330,69 @@ static int asked(char *line) {
 }
 
 static int usage(void) {
-  fprintf(stderr, "usage: box [-d] [-m BYTES] [-j BYTES] [-a ADDRESS] IMAGE\n"
-                  "BYTES of memory: an even number, 1024 to 16777216; of journal: 536 or more\n"
+  fprintf(stderr, "usage: box [-d] [-m BYTES] [-j BYTES] [-a ADDRESS] [-r ROM] IMAGE\n"
+                  "BYTES of memory: an even number, 1024 to 16777216, beside a ROM to 15728640; of journal: 536 or more\n"
                   "-d: where the journal is full, its oldest records are dropped\n");
   return 2;
 }
 
+/* Reads a file to where there is so much room, and tells how many bytes it has; SIZE_MAX if it can not be read. */
+static size_t load(const char *name, uint8_t *to, size_t room) {
+  FILE *f = fopen(name, "rb");
+  uint8_t more;
+  if (f == NULL) {
+    fprintf(stderr, "box: can't read %s\n", name);
+    return SIZE_MAX;
+  }
+  const size_t size = fread(to, 1, room, f);
+  if (fread(&more, 1, 1, f) != 0) fprintf(stderr, "box: %s is longer than its room; what is past its end was left out\n", name);
+  fclose(f);
+  return size;
+}
+
 int main(int argc, char **argv) {
   unsigned long address = 0;
+  const char *rom_name = NULL;
+  size_t rom_size = 0;
   int i = 1;
   for (; i + 1 < argc && argv[i][0] == '-'; i++) {
-    unsigned long value;
+    unsigned long value = 0;
     if (strcmp(argv[i], "-d") == 0) {
       drops = 1;
       continue;
     }
-    if (!number(argv[i + 1], &value)) return usage();
+    if (strcmp(argv[i], "-r") != 0 && !number(argv[i + 1], &value)) return usage();
     if (strcmp(argv[i], "-m") == 0) memory_length = value;
     else if (strcmp(argv[i], "-j") == 0) journal_length = value;
     else if (strcmp(argv[i], "-a") == 0) address = value;
+    else if (strcmp(argv[i], "-r") == 0) rom_name = argv[i + 1];
     else return usage();
     i++;
   }
-  if (i + 1 != argc || memory_length < IBZ_MEMORY_LEAST || memory_length > IBZ_MEMORY_MOST || memory_length % 2 != 0
-      || journal_length < IBZ_RECORD_MOST || address > memory_length)
+  if (i + 1 != argc || memory_length < IBZ_MEMORY_LEAST || memory_length % 2 != 0 || journal_length < IBZ_RECORD_MOST
+      || memory_length > (rom_name != NULL ? IBZ_MEMORY_MOST_BESIDE_ROM : IBZ_MEMORY_MOST) || address > memory_length)
     return usage();
   memory = (uint8_t *)calloc(memory_length, 1);
   journal = (uint8_t *)calloc(journal_length, 1);
+  rom = (uint8_t *)calloc(IBZ_ROM_MOST, 1);
   most_places = journal_length / 2 + 2;
   places = (struct place *)calloc(most_places, sizeof *places);
-  FILE *f = fopen(argv[i], "rb");
-  if (memory == NULL || journal == NULL || places == NULL || f == NULL) {
-    fprintf(stderr, f == NULL ? "box: can't read %s\n" : "box: no memory for %s\n", argv[i]);
+  if (memory == NULL || journal == NULL || rom == NULL || places == NULL) {
+    fprintf(stderr, "box: no memory for %s\n", argv[i]);
     return 2;
   }
-  const size_t size = fread(memory + address, 1, memory_length - address, f);
-  uint8_t more;
-  if (fread(&more, 1, 1, f) != 0) fprintf(stderr, "box: the image is longer than memory; what is past its end was left out\n");
-  fclose(f);
+  const size_t size = load(argv[i], memory + address, memory_length - address);
+  if (rom_name != NULL) rom_size = load(rom_name, rom, IBZ_ROM_MOST);
+  if (size == SIZE_MAX || rom_size == SIZE_MAX) return 2;
+  rom_length = rom_size + rom_size % 2; /* a last byte by itself has a 0 beside it */
   printf("%zu bytes at %06lX of %zu; `help` lists what can be asked\n", size, address, memory_length);
+  if (rom_name != NULL) printf("%zu bytes at %06lX, in the ROM\n", rom_size, (unsigned long)IBZ_ROM_START);
   reset();
   for (char line[256]; printf("> "), fflush(stdout), fgets(line, sizeof line, stdin) != NULL;)
     if (!asked(line)) break;
   free(memory);
   free(journal);
+  free(rom);
   free(places);
   return 0;
 }

@@ -1,5 +1,6 @@
 /* calls.c - the calls by hand: every refusal by itself and in the order of the table, 01's examples, the way back on other blocks,
- * and what the header declares. Steps and runs keep all records, as 01 has them; dropping.c tries those that drop, forms.c the conversions. */
+ * and what the header declares. Steps and runs keep all records, as 01 has them, and have no ROM; dropping.c tries those that drop, rom.c
+ * the ROM and the part, forms.c the conversions. */
 #include "tests.h"
 
 enum { MEMORY = 65536, JOURNAL = 4096, BLOCK = IBZ_BLOCK_LENGTH };
@@ -7,6 +8,7 @@ enum { MEMORY = 65536, JOURNAL = 4096, BLOCK = IBZ_BLOCK_LENGTH };
 /* One byte more than is lent, to be seen to stay. */
 static uint8_t block[BLOCK + 1], memory[MEMORY], journal[JOURNAL];
 static uint8_t old_block[BLOCK + 1], old_memory[MEMORY], old_journal[JOURNAL];
+static uint8_t rom[IBZ_ROM_MOST + 2];
 
 static void put(uint32_t at, unsigned word) {
   memory[at] = (uint8_t)(word >> 8);
@@ -35,10 +37,10 @@ static void fresh(unsigned word) {
 }
 
 static struct ibz_step_answer step(uint32_t level, uint8_t vector, size_t mark) {
-  return ibz_step_keeping(block, BLOCK, 0, MEMORY, memory, MEMORY, level, vector, journal, JOURNAL, mark);
+  return ibz_step_keeping(block, BLOCK, 0, MEMORY, memory, MEMORY, IBZ_NO_ROM, level, vector, journal, JOURNAL, mark);
 }
 
-static struct ibz_undo_answer undo(size_t mark) { return ibz_undo(block, BLOCK, 0, MEMORY, memory, MEMORY, journal, JOURNAL, mark); }
+static struct ibz_undo_answer undo(size_t mark) { return ibz_undo(block, BLOCK, 0, MEMORY, memory, MEMORY, IBZ_NO_ROM, journal, JOURNAL, mark); }
 
 /* A refusal: its number, the mark as given, 0 for the rest, and no byte altered. */
 static int step_refused(struct ibz_step_answer a, uint32_t number, size_t mark) {
@@ -62,9 +64,9 @@ static int back_refused(struct ibz_back_answer a, uint32_t number, size_t mark, 
   return a.number == number && a.undone == 0 && a.mark == mark && a.lo == lo && a.hi == hi && kept();
 }
 
-/* ---- the order of the table: every set of refusals that can apply together gives the first of 9, 1, 2, 10, 3, .. */
+/* ---- the order of the table: every set of refusals that can apply together gives the first of 9, 1, 12, 2, 10, 3, .. */
 
-static const unsigned order[] = {9, 1, 2, 10, 3, 4, 5, 6, 7, 8};
+static const unsigned order[] = {9, 1, 12, 2, 10, 3, 4, 5, 6, 7, 8};
 
 static unsigned first(unsigned set) {
   for (unsigned i = 0; i < sizeof order / sizeof *order; i++)
@@ -82,60 +84,62 @@ static void set_up(unsigned set) {
   keep();
 }
 
-/* Where 10 is in the set, a window in one of four ways: its end before its start or beyond memory, by 1 or by far. */
+/* Where 10 is in the set, a window in one of four ways: its end before its start or beyond memory, by 1 or by far. Where 12 is, a ROM of odd
+ * length or one that is too long, by turns; else in the last two ways a good one, whose end the window's end is judged by. */
 static void orders_of(unsigned set, unsigned way) {
   const size_t block_length = set >> 9 & 1u ? 79 : BLOCK, memory_length = set >> 1 & 1u ? 1023 : MEMORY;
-  const uint32_t end = (uint32_t)memory_length;
+  const size_t rom_length = set >> 12 & 1u ? (way % 2 == 0 ? 1 : IBZ_ROM_MOST + 2) : way < 2 ? 0 : 2;
+  const uint32_t end = rom_length == 0 ? (uint32_t)memory_length : IBZ_ROM_START + (uint32_t)rom_length;
   const struct { uint32_t lo, hi; } windows[] = {{8, 7}, {0, end + 1}, {0xFFFFFFFFu, end}, {0xFFFFFFFFu, 0xFFFFFFFFu}, {0, end}};
   const uint32_t lo = windows[set >> 10 & 1u ? way : 4].lo, hi = windows[set >> 10 & 1u ? way : 4].hi;
   const unsigned n = first(set);
   set_up(set);
-  if ((set & ~0x202u) == 0) { /* reset: 9, 1 */
-    const struct ibz_reset_answer a = ibz_reset(block, block_length, memory, memory_length);
+  if ((set & ~0x1202u) == 0) { /* reset: 9, 1, 12 */
+    const struct ibz_reset_answer a = ibz_reset(block, block_length, memory, memory_length, rom, rom_length);
     EXPECT(a.number == n && (n != 9 || kept()) && a.lo == 0 && a.hi == (n == 0 ? MEMORY : 0));
     set_up(set);
   }
-  if ((set & ~0x67Eu) == 0) { /* step: 9, 1, 2, 10, 3 to 6; a mark beyond the journal leaves less than 536 too */
+  if ((set & ~0x167Eu) == 0) { /* step: 9, 1, 12, 2, 10, 3 to 6; a mark beyond the journal leaves less than 536 too */
     const size_t length = set >> 5 & 1u ? 600 : JOURNAL, mark = set >> 4 & 1u ? length + 1 : set >> 5 & 1u ? 65 : 64;
     const uint32_t level = set >> 3 & 1u ? 8 : 0, count = set >> 3 & 1u ? 1000001 : 1;
     const struct ibz_step_answer a =
-        ibz_step_keeping(block, block_length, lo, hi, memory, memory_length, level, 0, journal, length, mark);
+        ibz_step_keeping(block, block_length, lo, hi, memory, memory_length, rom, rom_length, level, 0, journal, length, mark);
     EXPECT(n == 0 ? a.number == 0 : step_refused(a, n, mark));
     set_up(set); /* and a try */
-    const struct ibz_try_answer b = ibz_try(block, block_length, lo, hi, memory, memory_length, count, journal, length, mark);
+    const struct ibz_try_answer b = ibz_try(block, block_length, lo, hi, memory, memory_length, rom, rom_length, count, journal, length, mark);
     EXPECT(n == 0 ? b.end == IBZ_END_SPENT && b.number == 0 && b.steps == 1 : try_refused(b, n, mark));
     set_up(set);
   }
-  if ((set & ~0x77Eu) == 0) { /* step that drops: 9, 1, 2, 10, 3 to 6, 8; a journal with room is not judged */
+  if ((set & ~0x177Eu) == 0) { /* step that drops: 9, 1, 12, 2, 10, 3 to 6, 8; a journal with room is not judged */
     const size_t length = set >> 5 & 1u ? 535 : 600, mark = set >> 4 & 1u ? length + 1 : set >> 8 & 1u ? 65 : 64;
     const uint32_t level = set >> 3 & 1u ? 8 : 0;
-    const struct ibz_step_answer a = ibz_step(block, block_length, lo, hi, memory, memory_length, level, 0, journal, length, mark);
+    const struct ibz_step_answer a = ibz_step(block, block_length, lo, hi, memory, memory_length, rom, rom_length, level, 0, journal, length, mark);
     EXPECT(n == 0 ? a.number == 0 && a.moved == 0 && a.dropped == 0 : step_refused(a, n, mark));
     set_up(set);
   }
-  if ((set & ~0x61Eu) == 0) { /* run: 9, 1, 2, 10, 3, 4 */
+  if ((set & ~0x161Eu) == 0) { /* run: 9, 1, 12, 2, 10, 3, 4 */
     const size_t mark = set >> 4 & 1u ? JOURNAL + 1 : 0;
     const uint32_t budget = set >> 3 & 1u ? 1000001 : 1;
     const struct ibz_run_answer a =
-        ibz_run_keeping(block, block_length, lo, hi, memory, memory_length, budget, 0, journal, JOURNAL, mark);
+        ibz_run_keeping(block, block_length, lo, hi, memory, memory_length, rom, rom_length, budget, 0, journal, JOURNAL, mark);
     EXPECT(n == 0 ? a.number == 0 && a.reason != 0 : run_refused(a, n, mark));
     set_up(set);
-    const struct ibz_run_answer b = ibz_run(block, block_length, lo, hi, memory, memory_length, budget, 0, journal, JOURNAL, mark);
+    const struct ibz_run_answer b = ibz_run(block, block_length, lo, hi, memory, memory_length, rom, rom_length, budget, 0, journal, JOURNAL, mark);
     EXPECT(n == 0 ? b.number == 0 && b.reason != 0 : run_refused(b, n, mark));
     set_up(set);
   }
-  if ((set & ~0x796u) == 0 && (set & 0x90u) != 0x90u) { /* undo: 9, 1, 2, 10, 4, 7, 8; a mark of 0 is not beyond a journal */
+  if ((set & ~0x1796u) == 0 && (set & 0x90u) != 0x90u) { /* undo: 9, 1, 12, 2, 10, 4, 7, 8; a mark of 0 is not beyond a journal */
     const size_t mark = set >> 4 & 1u ? 9 : set >> 7 & 1u ? 0 : 8;
-    const struct ibz_undo_answer a = ibz_undo(block, block_length, lo, hi, memory, memory_length, journal, 8, mark);
+    const struct ibz_undo_answer a = ibz_undo(block, block_length, lo, hi, memory, memory_length, rom, rom_length, journal, 8, mark);
     EXPECT(n == 0 ? a.number == 0 && a.mark == 6 : undo_refused(a, n, mark));
     set_up(set); /* and taking back */
-    const struct ibz_back_answer b = ibz_take_back(block, block_length, lo, hi, memory, memory_length, journal, 8, mark, 2, 5, 6);
+    const struct ibz_back_answer b = ibz_take_back(block, block_length, lo, hi, memory, memory_length, rom, rom_length, journal, 8, mark, 2, 5, 6);
     EXPECT(n == 0 ? b.number == 0 && b.undone == 2 && b.mark == 4 && b.lo == 5 && b.hi == 6 : back_refused(b, n, mark, lo, hi));
   }
 }
 
 static void orders(void) {
-  for (unsigned set = 0; set < 1u << 11; set++)
+  for (unsigned set = 0; set < 1u << 13; set++)
     for (unsigned way = 0; way < 4; way++) orders_of(set, way);
 }
 
@@ -145,33 +149,33 @@ static void blocks(void) {
   static const size_t lengths[] = {0, 1, 79, 81};
   fresh(0x7001);
   for (unsigned i = 0; i < sizeof lengths / sizeof *lengths; i++) {
-    const struct ibz_reset_answer r = ibz_reset(block, lengths[i], memory, MEMORY);
+    const struct ibz_reset_answer r = ibz_reset(block, lengths[i], memory, MEMORY, IBZ_NO_ROM);
     EXPECT(r.number == IBZ_NO_BLOCK && r.lo == 0 && r.hi == 0 && kept());
-    EXPECT(step_refused(ibz_step_keeping(block, lengths[i], 0, MEMORY, memory, MEMORY, 0, 0, journal, JOURNAL, 0), IBZ_NO_BLOCK, 0));
-    EXPECT(run_refused(ibz_run_keeping(block, lengths[i], 0, MEMORY, memory, MEMORY, 1, 0, journal, JOURNAL, 0), IBZ_NO_BLOCK, 0));
-    EXPECT(step_refused(ibz_step(block, lengths[i], 0, MEMORY, memory, MEMORY, 0, 0, journal, JOURNAL, JOURNAL), IBZ_NO_BLOCK, JOURNAL));
-    EXPECT(run_refused(ibz_run(block, lengths[i], 0, MEMORY, memory, MEMORY, 1, 0, journal, JOURNAL, JOURNAL), IBZ_NO_BLOCK, JOURNAL));
-    EXPECT(undo_refused(ibz_undo(block, lengths[i], 0, MEMORY, memory, MEMORY, journal, JOURNAL, 2), IBZ_NO_BLOCK, 2));
-    EXPECT(try_refused(ibz_try(block, lengths[i], 0, MEMORY, memory, MEMORY, 1, journal, JOURNAL, 3), IBZ_NO_BLOCK, 3));
-    EXPECT(back_refused(ibz_take_back(block, lengths[i], 3, 4, memory, MEMORY, journal, JOURNAL, 2, 0, 5, 6), IBZ_NO_BLOCK, 2, 3, 4));
+    EXPECT(step_refused(ibz_step_keeping(block, lengths[i], 0, MEMORY, memory, MEMORY, IBZ_NO_ROM, 0, 0, journal, JOURNAL, 0), IBZ_NO_BLOCK, 0));
+    EXPECT(run_refused(ibz_run_keeping(block, lengths[i], 0, MEMORY, memory, MEMORY, IBZ_NO_ROM, 1, 0, journal, JOURNAL, 0), IBZ_NO_BLOCK, 0));
+    EXPECT(step_refused(ibz_step(block, lengths[i], 0, MEMORY, memory, MEMORY, IBZ_NO_ROM, 0, 0, journal, JOURNAL, JOURNAL), IBZ_NO_BLOCK, JOURNAL));
+    EXPECT(run_refused(ibz_run(block, lengths[i], 0, MEMORY, memory, MEMORY, IBZ_NO_ROM, 1, 0, journal, JOURNAL, JOURNAL), IBZ_NO_BLOCK, JOURNAL));
+    EXPECT(undo_refused(ibz_undo(block, lengths[i], 0, MEMORY, memory, MEMORY, IBZ_NO_ROM, journal, JOURNAL, 2), IBZ_NO_BLOCK, 2));
+    EXPECT(try_refused(ibz_try(block, lengths[i], 0, MEMORY, memory, MEMORY, IBZ_NO_ROM, 1, journal, JOURNAL, 3), IBZ_NO_BLOCK, 3));
+    EXPECT(back_refused(ibz_take_back(block, lengths[i], 3, 4, memory, MEMORY, IBZ_NO_ROM, journal, JOURNAL, 2, 0, 5, 6), IBZ_NO_BLOCK, 2, 3, 4));
   }
   /* nothing else is looked at, and a pointer with length 0 may be NULL */
-  EXPECT(ibz_reset(NULL, 0, NULL, 0).number == IBZ_NO_BLOCK);
-  EXPECT(step_refused(ibz_step_keeping(NULL, 0, 0, 0, NULL, 0, 9, 0, NULL, 0, 7), IBZ_NO_BLOCK, 7));
-  EXPECT(run_refused(ibz_run_keeping(NULL, 0, 0, 0, NULL, 0, 2000000, 0, NULL, 0, 7), IBZ_NO_BLOCK, 7));
-  EXPECT(step_refused(ibz_step(NULL, 0, 0, 0, NULL, 0, 9, 0, NULL, 0, 7), IBZ_NO_BLOCK, 7));
-  EXPECT(run_refused(ibz_run(NULL, 0, 0, 0, NULL, 0, 2000000, 0, NULL, 0, 7), IBZ_NO_BLOCK, 7));
-  EXPECT(undo_refused(ibz_undo(NULL, 0, 0, 0, NULL, 0, NULL, 0, 7), IBZ_NO_BLOCK, 7));
-  EXPECT(try_refused(ibz_try(NULL, 0, 9, 8, NULL, 0, 2000000, NULL, 0, 7), IBZ_NO_BLOCK, 7));
-  EXPECT(back_refused(ibz_take_back(NULL, 0, 9, 8, NULL, 0, NULL, 0, 7, 1, 5, 6), IBZ_NO_BLOCK, 7, 9, 8));
-  EXPECT(step_refused(ibz_step_keeping(block, BLOCK, 0, 0, NULL, 0, 0, 0, journal, JOURNAL, 0), IBZ_BAD_MEMORY, 0));
-  EXPECT(run_refused(ibz_run_keeping(block, BLOCK, 0, 0, NULL, 0, 1, 0, journal, JOURNAL, 0), IBZ_BAD_MEMORY, 0));
-  EXPECT(undo_refused(ibz_undo(block, BLOCK, 0, 0, NULL, 0, journal, JOURNAL, 2), IBZ_BAD_MEMORY, 2));
-  EXPECT(step_refused(ibz_step_keeping(block, BLOCK, 0, MEMORY, memory, MEMORY, 0, 0, NULL, 0, 0), IBZ_JOURNAL_FULL, 0));
-  EXPECT(undo_refused(ibz_undo(block, BLOCK, 0, MEMORY, memory, MEMORY, NULL, 0, 0), IBZ_NO_RECORD, 0));
-  EXPECT(ibz_run_keeping(block, BLOCK, 0, MEMORY, memory, MEMORY, 1, 0, NULL, 0, 0).reason == IBZ_REASON_JOURNAL && kept());
-  EXPECT(step_refused(ibz_step(block, BLOCK, 0, MEMORY, memory, MEMORY, 0, 0, NULL, 0, 0), IBZ_JOURNAL_FULL, 0));
-  EXPECT(ibz_run(block, BLOCK, 0, MEMORY, memory, MEMORY, 1, 0, NULL, 0, 0).reason == IBZ_REASON_JOURNAL && kept());
+  EXPECT(ibz_reset(NULL, 0, NULL, 0, IBZ_NO_ROM).number == IBZ_NO_BLOCK);
+  EXPECT(step_refused(ibz_step_keeping(NULL, 0, 0, 0, NULL, 0, IBZ_NO_ROM, 9, 0, NULL, 0, 7), IBZ_NO_BLOCK, 7));
+  EXPECT(run_refused(ibz_run_keeping(NULL, 0, 0, 0, NULL, 0, IBZ_NO_ROM, 2000000, 0, NULL, 0, 7), IBZ_NO_BLOCK, 7));
+  EXPECT(step_refused(ibz_step(NULL, 0, 0, 0, NULL, 0, IBZ_NO_ROM, 9, 0, NULL, 0, 7), IBZ_NO_BLOCK, 7));
+  EXPECT(run_refused(ibz_run(NULL, 0, 0, 0, NULL, 0, IBZ_NO_ROM, 2000000, 0, NULL, 0, 7), IBZ_NO_BLOCK, 7));
+  EXPECT(undo_refused(ibz_undo(NULL, 0, 0, 0, NULL, 0, IBZ_NO_ROM, NULL, 0, 7), IBZ_NO_BLOCK, 7));
+  EXPECT(try_refused(ibz_try(NULL, 0, 9, 8, NULL, 0, IBZ_NO_ROM, 2000000, NULL, 0, 7), IBZ_NO_BLOCK, 7));
+  EXPECT(back_refused(ibz_take_back(NULL, 0, 9, 8, NULL, 0, IBZ_NO_ROM, NULL, 0, 7, 1, 5, 6), IBZ_NO_BLOCK, 7, 9, 8));
+  EXPECT(step_refused(ibz_step_keeping(block, BLOCK, 0, 0, NULL, 0, IBZ_NO_ROM, 0, 0, journal, JOURNAL, 0), IBZ_BAD_MEMORY, 0));
+  EXPECT(run_refused(ibz_run_keeping(block, BLOCK, 0, 0, NULL, 0, IBZ_NO_ROM, 1, 0, journal, JOURNAL, 0), IBZ_BAD_MEMORY, 0));
+  EXPECT(undo_refused(ibz_undo(block, BLOCK, 0, 0, NULL, 0, IBZ_NO_ROM, journal, JOURNAL, 2), IBZ_BAD_MEMORY, 2));
+  EXPECT(step_refused(ibz_step_keeping(block, BLOCK, 0, MEMORY, memory, MEMORY, IBZ_NO_ROM, 0, 0, NULL, 0, 0), IBZ_JOURNAL_FULL, 0));
+  EXPECT(undo_refused(ibz_undo(block, BLOCK, 0, MEMORY, memory, MEMORY, IBZ_NO_ROM, NULL, 0, 0), IBZ_NO_RECORD, 0));
+  EXPECT(ibz_run_keeping(block, BLOCK, 0, MEMORY, memory, MEMORY, IBZ_NO_ROM, 1, 0, NULL, 0, 0).reason == IBZ_REASON_JOURNAL && kept());
+  EXPECT(step_refused(ibz_step(block, BLOCK, 0, MEMORY, memory, MEMORY, IBZ_NO_ROM, 0, 0, NULL, 0, 0), IBZ_JOURNAL_FULL, 0));
+  EXPECT(ibz_run(block, BLOCK, 0, MEMORY, memory, MEMORY, IBZ_NO_ROM, 1, 0, NULL, 0, 0).reason == IBZ_REASON_JOURNAL && kept());
 }
 
 static void memories(void) {
@@ -183,9 +187,9 @@ static void memories(void) {
     fresh(0x7001);
     large[0x200] = 0x70, large[0x201] = 1;
     const uint32_t hi = (uint32_t)cases[i].length;
-    const struct ibz_step_answer a = ibz_step_keeping(block, BLOCK, 0, hi, large, cases[i].length, 0, 0, journal, JOURNAL, 0);
+    const struct ibz_step_answer a = ibz_step_keeping(block, BLOCK, 0, hi, large, cases[i].length, IBZ_NO_ROM, 0, 0, journal, JOURNAL, 0);
     EXPECT(cases[i].number == 0 ? a.number == 0 && ibz_get(block, IBZ_D0) == 1 : step_refused(a, 1, 0));
-    const struct ibz_reset_answer r = ibz_reset(block, BLOCK, large, cases[i].length);
+    const struct ibz_reset_answer r = ibz_reset(block, BLOCK, large, cases[i].length, IBZ_NO_ROM);
     EXPECT(r.number == cases[i].number && ibz_get(block, IBZ_MODE) == (r.number == 0 ? 0u : 2u));
     EXPECT(r.lo == 0 && r.hi == (r.number == 0 ? hi : 0u)); /* the window: all of memory, or nothing */
   }
@@ -204,7 +208,7 @@ static void states(void) {
     ibz_set(block, IBZ_MODE, modes[i]);
     keep();
     EXPECT(step_refused(step(0, 0, 0), IBZ_BAD_STATE, 0));
-    EXPECT(run_refused(ibz_run_keeping(block, BLOCK, 0, MEMORY, memory, MEMORY, 1, 0, journal, JOURNAL, 0), IBZ_BAD_STATE, 0));
+    EXPECT(run_refused(ibz_run_keeping(block, BLOCK, 0, MEMORY, memory, MEMORY, IBZ_NO_ROM, 1, 0, journal, JOURNAL, 0), IBZ_BAD_STATE, 0));
     EXPECT(undo_refused(undo(2), IBZ_BAD_STATE, 2));
   }
 }
@@ -215,26 +219,29 @@ static void requests(void) {
   fresh(0x60FE);
   for (unsigned i = 0; i < sizeof levels / sizeof *levels; i++) EXPECT(step_refused(step(levels[i], 0, 0), IBZ_BAD_REQUEST, 0));
   for (unsigned i = 0; i < sizeof budgets / sizeof *budgets; i++) {
-    EXPECT(run_refused(ibz_run_keeping(block, BLOCK, 0, MEMORY, memory, MEMORY, budgets[i], 0, journal, JOURNAL, 0), IBZ_BAD_REQUEST, 0));
-    EXPECT(try_refused(ibz_try(block, BLOCK, 0, MEMORY, memory, MEMORY, budgets[i], journal, JOURNAL, 0), IBZ_BAD_REQUEST, 0));
+    EXPECT(run_refused(ibz_run_keeping(block, BLOCK, 0, MEMORY, memory, MEMORY, IBZ_NO_ROM, budgets[i], 0, journal, JOURNAL, 0),
+                       IBZ_BAD_REQUEST, 0));
+    EXPECT(try_refused(ibz_try(block, BLOCK, 0, MEMORY, memory, MEMORY, IBZ_NO_ROM, budgets[i], journal, JOURNAL, 0), IBZ_BAD_REQUEST, 0));
   }
   EXPECT(step(7, 0, 0).number == 0);
   fresh(0x60FE);
-  EXPECT(ibz_run_keeping(block, BLOCK, 0, MEMORY, memory, MEMORY, IBZ_BUDGET_MOST, 0, journal, JOURNAL, 0).reason == IBZ_REASON_JOURNAL);
+  EXPECT(ibz_run_keeping(block, BLOCK, 0, MEMORY, memory, MEMORY, IBZ_NO_ROM, IBZ_BUDGET_MOST, 0, journal, JOURNAL, 0).reason == IBZ_REASON_JOURNAL);
 }
 
 static void marks(void) {
   fresh(0x7001);
   EXPECT(step_refused(step(0, 0, JOURNAL + 1), IBZ_BAD_MARK, JOURNAL + 1));
   EXPECT(step_refused(step(0, 0, SIZE_MAX), IBZ_BAD_MARK, SIZE_MAX));
-  EXPECT(run_refused(ibz_run_keeping(block, BLOCK, 0, MEMORY, memory, MEMORY, 1, 0, journal, JOURNAL, SIZE_MAX), IBZ_BAD_MARK, SIZE_MAX));
+  EXPECT(run_refused(ibz_run_keeping(block, BLOCK, 0, MEMORY, memory, MEMORY, IBZ_NO_ROM, 1, 0, journal, JOURNAL, SIZE_MAX),
+                     IBZ_BAD_MARK, SIZE_MAX));
   EXPECT(undo_refused(undo(JOURNAL + 1), IBZ_BAD_MARK, JOURNAL + 1));
   EXPECT(undo_refused(undo(SIZE_MAX), IBZ_BAD_MARK, SIZE_MAX));
   EXPECT(undo_refused(undo(0), IBZ_NO_RECORD, 0));
   EXPECT(step_refused(step(0, 0, JOURNAL), IBZ_JOURNAL_FULL, JOURNAL));
   EXPECT(step_refused(step(0, 0, JOURNAL - 535), IBZ_JOURNAL_FULL, JOURNAL - 535));
-  EXPECT(step_refused(ibz_step_keeping(block, BLOCK, 0, MEMORY, memory, MEMORY, 0, 0, journal, 535, 0), IBZ_JOURNAL_FULL, 0));
-  EXPECT(ibz_step_keeping(block, BLOCK, 0, MEMORY, memory, MEMORY, 0, 0, journal, 536, 0).number == IBZ_DONE && ibz_get(block, IBZ_D0) == 1);
+  EXPECT(step_refused(ibz_step_keeping(block, BLOCK, 0, MEMORY, memory, MEMORY, IBZ_NO_ROM, 0, 0, journal, 535, 0), IBZ_JOURNAL_FULL, 0));
+  EXPECT(ibz_step_keeping(block, BLOCK, 0, MEMORY, memory, MEMORY, IBZ_NO_ROM, 0, 0, journal, 536, 0).number == IBZ_DONE);
+  EXPECT(ibz_get(block, IBZ_D0) == 1);
   fresh(0x7001);
   EXPECT(step(0, 0, JOURNAL - 536).number == IBZ_DONE);
   fresh(0x7001);
@@ -265,11 +272,11 @@ static void records(void) {
   for (unsigned i = 0; i < sizeof bad / sizeof *bad; i++) {
     memcpy(journal, bad[i].bytes, bad[i].n);
     keep();
-    EXPECT(undo_refused(ibz_undo(block, BLOCK, 0, 1024, memory, 1024, journal, JOURNAL, bad[i].n), IBZ_BAD_RECORD, bad[i].n));
+    EXPECT(undo_refused(ibz_undo(block, BLOCK, 0, 1024, memory, 1024, IBZ_NO_ROM, journal, JOURNAL, bad[i].n), IBZ_BAD_RECORD, bad[i].n));
   }
   static const uint8_t good[] = {0x03, 0x07, 0x00, 0x09, 0x01, 0x01}; /* D3 was 7, the byte at 0 was 9 */
   memcpy(journal, good, sizeof good);
-  const struct ibz_undo_answer a = ibz_undo(block, BLOCK, 0, 1024, memory, 1024, journal, JOURNAL, sizeof good);
+  const struct ibz_undo_answer a = ibz_undo(block, BLOCK, 0, 1024, memory, 1024, IBZ_NO_ROM, journal, JOURNAL, sizeof good);
   EXPECT(a.number == 0 && a.mark == 0 && ibz_get(block, IBZ_D3) == 7 && memory[0] == 9 && ibz_get(block, IBZ_D2) == 5);
 }
 
@@ -278,14 +285,14 @@ static void records(void) {
 static void resets(void) {
   fresh(0x7001);
   for (unsigned i = 0; i < sizeof block; i++) block[i] = (uint8_t)(i * 7 + 1);
-  EXPECT(ibz_reset(block, BLOCK, memory, 1023).number == IBZ_BAD_MEMORY); /* the fixed state */
+  EXPECT(ibz_reset(block, BLOCK, memory, 1023, IBZ_NO_ROM).number == IBZ_BAD_MEMORY); /* the fixed state */
   for (unsigned i = 0; i < IBZ_SLOTS; i++) EXPECT(ibz_get(block, i) == (i == IBZ_MODE ? 2u : 0u));
   EXPECT(block[BLOCK] == (uint8_t)(BLOCK * 7 + 1));
-  EXPECT(ibz_reset(block, BLOCK, NULL, 0).number == IBZ_BAD_MEMORY && ibz_get(block, IBZ_MODE) == 2);
+  EXPECT(ibz_reset(block, BLOCK, NULL, 0, IBZ_NO_ROM).number == IBZ_BAD_MEMORY && ibz_get(block, IBZ_MODE) == 2);
   memset(block, 0xFF, BLOCK); /* it looks at no slot */
   put(0, 0x0102), put(2, 0x0304), put(4, 0xA0B0), put(6, 0xC0D0);
   keep();
-  EXPECT(ibz_reset(block, BLOCK, memory, 1024).number == IBZ_DONE);
+  EXPECT(ibz_reset(block, BLOCK, memory, 1024, IBZ_NO_ROM).number == IBZ_DONE);
   for (unsigned i = 0; i < IBZ_SLOTS; i++)
     EXPECT(ibz_get(block, i) == (i == IBZ_SSP ? 0x01020304u : i == IBZ_PC ? 0xA0B0C0D0u : i == IBZ_SR ? 0x2700u : 0u));
   EXPECT(block[64] == 1 && block[65] == 2 && block[66] == 3 && block[67] == 4); /* high byte first */
@@ -299,7 +306,7 @@ static int ran(struct ibz_run_answer a, uint32_t reason, uint32_t steps, size_t 
 }
 
 static struct ibz_run_answer run(uint32_t budget, uint32_t stop, size_t length, size_t mark) {
-  return ibz_run_keeping(block, BLOCK, 0, MEMORY, memory, MEMORY, budget, stop, journal, length, mark);
+  return ibz_run_keeping(block, BLOCK, 0, MEMORY, memory, MEMORY, IBZ_NO_ROM, budget, stop, journal, length, mark);
 }
 
 static void reasons(void) {
@@ -385,8 +392,8 @@ static size_t program(uint8_t *b, uint8_t *m, uint8_t *j) {
   memcpy(m, image, sizeof image);
   memcpy(m + 0x400, code, sizeof code);
   m[33 * 4 + 2] = 5, m[0x500] = 0x4E, m[0x501] = 0x73; /* TRAP #1's handler returns */
-  ibz_reset(b, BLOCK, m, MEMORY);
-  const struct ibz_run_answer a = ibz_run_keeping(b, BLOCK, 0, MEMORY, m, MEMORY, 8, 0xFFFFFFFFu, j, JOURNAL, 0);
+  ibz_reset(b, BLOCK, m, MEMORY, IBZ_NO_ROM);
+  const struct ibz_run_answer a = ibz_run_keeping(b, BLOCK, 0, MEMORY, m, MEMORY, IBZ_NO_ROM, 8, 0xFFFFFFFFu, j, JOURNAL, 0);
   EXPECT(a.number == 0 && a.steps == 8 && ibz_get(b, IBZ_PC) == 0x40A);
   EXPECT(a.clocks == 4 + 12 + 18 + 16 + 16 + 38 + 20 + 10); /* MOVEQ MOVE BSR CLR RTS TRAP RTE BRA */
   return a.mark;
@@ -403,12 +410,12 @@ static void way_back(void) {
   size_t marks_of[2] = {mark, other_mark};
   for (unsigned i = 0; i < 16; i++) {
     uint8_t *b = i % 2 ? other + 1 : block, *m = i % 2 ? other_memory : memory;
-    const struct ibz_undo_answer a = ibz_undo(b, BLOCK, 0, MEMORY, m, MEMORY, i % 2 ? other_journal : journal, JOURNAL, marks_of[i % 2]);
+    const struct ibz_undo_answer a = ibz_undo(b, BLOCK, 0, MEMORY, m, MEMORY, IBZ_NO_ROM, i % 2 ? other_journal : journal, JOURNAL, marks_of[i % 2]);
     EXPECT(a.number == 0 && a.mark < marks_of[i % 2]);
     marks_of[i % 2] = a.mark;
     EXPECT(i % 2 == 0 || memcmp(other + 1, block, BLOCK) == 0);
   }
-  ibz_reset(start, BLOCK, memory, MEMORY);
+  ibz_reset(start, BLOCK, memory, MEMORY, IBZ_NO_ROM);
   EXPECT(marks_of[0] == 0 && marks_of[1] == 0 && memcmp(start, block, BLOCK) == 0 && memcmp(start, other + 1, BLOCK) == 0);
   EXPECT(memcmp(memory, other_memory, MEMORY) == 0 && memory[0x800] == 0 && memory[0xFFF] == 0);
   /* the state is what the block holds, wherever it lies: each undo on another copy of it, at other alignments */
@@ -416,7 +423,7 @@ static void way_back(void) {
   memcpy(other, block, BLOCK);
   for (unsigned i = 0; i < 8; i++) {
     uint8_t *now = other + i % 4, *next = other + (i + 1) % 4;
-    const struct ibz_undo_answer a = ibz_undo(now, BLOCK, 0, MEMORY, memory, MEMORY, journal, JOURNAL, mark);
+    const struct ibz_undo_answer a = ibz_undo(now, BLOCK, 0, MEMORY, memory, MEMORY, IBZ_NO_ROM, journal, JOURNAL, mark);
     EXPECT(a.number == 0);
     mark = a.mark;
     uint8_t copy[BLOCK];
@@ -440,6 +447,7 @@ static void layout(void) {
   EXPECT(sizeof(struct ibz_run_answer) == 40 && sizeof(struct ibz_undo_answer) == 16);
   EXPECT(sizeof(struct ibz_try_answer) == 24 && sizeof(struct ibz_back_answer) == 24);
   EXPECT(sizeof(struct ibz_form_answer) == 16 && offsetof(struct ibz_form_answer, length) == 8);
+  EXPECT(sizeof(struct ibz_slice) == 16 && offsetof(struct ibz_slice, length) == 8);
   EXPECT(offsetof(struct ibz_reset_answer, lo) == 4 && offsetof(struct ibz_reset_answer, hi) == 8);
   EXPECT(offsetof(struct ibz_try_answer, number) == 4 && offsetof(struct ibz_try_answer, vector) == 8);
   EXPECT(offsetof(struct ibz_try_answer, steps) == 12 && offsetof(struct ibz_try_answer, mark) == 16);
@@ -448,7 +456,7 @@ static void layout(void) {
   EXPECT(offsetof(struct ibz_step_answer, event) == 4 && offsetof(struct ibz_run_answer, reason) == 4);
   EXPECT(offsetof(struct ibz_step_answer, mark) == 8 && offsetof(struct ibz_run_answer, mark) == 8);
   EXPECT(offsetof(struct ibz_undo_answer, mark) == 8 && offsetof(struct ibz_run_answer, steps) == 16);
-  EXPECT(offsetof(struct ibz_step_answer, clocks) == 16 && offsetof(struct ibz_run_answer, clocks) == 20 && IBZ_VERSION == 5);
+  EXPECT(offsetof(struct ibz_step_answer, clocks) == 16 && offsetof(struct ibz_run_answer, clocks) == 20 && IBZ_VERSION == 6);
   EXPECT(offsetof(struct ibz_step_answer, moved) == 24 && offsetof(struct ibz_run_answer, moved) == 24);
   EXPECT(offsetof(struct ibz_step_answer, dropped) == 32 && offsetof(struct ibz_run_answer, dropped) == 32);
   for (unsigned i = 0; i < IBZ_SLOTS; i++) {
@@ -457,8 +465,8 @@ static void layout(void) {
     EXPECT(ibz_get(block, i) == 0x89ABCDEFu && block[4 * i] == 0x89 && block[4 * i + 3] == 0xEF && block[4 * i + 4] == 0x5A);
     EXPECT(i == 0 || block[4 * i - 1] == 0x5A);
   }
-  for (uint32_t n = 0; n <= 11; n++) /* a text for each, and no two alike */
-    for (uint32_t k = 0; k <= 12; k++) EXPECT((strcmp(ibz_number_text(n), ibz_number_text(k)) == 0) == (n == k));
+  for (uint32_t n = 0; n <= 13; n++) /* a text for each, and no two alike */
+    for (uint32_t k = 0; k <= 14; k++) EXPECT((strcmp(ibz_number_text(n), ibz_number_text(k)) == 0) == (n == k));
   for (uint32_t n = 0; n <= 6; n++)
     for (uint32_t k = 0; k <= 7; k++) EXPECT((strcmp(ibz_reason_text(n), ibz_reason_text(k)) == 0) == (n == k));
   for (uint32_t n = 1; n <= 5; n++)

@@ -12,7 +12,7 @@ static void put(uint32_t at, unsigned word) {
 }
 
 static struct ibz_step_answer step(uint32_t level) {
-  return ibz_step(block, BLOCK, 0, MEMORY, memory, MEMORY, level, 64, journal, JOURNAL, 0);
+  return ibz_step(block, BLOCK, 0, MEMORY, memory, MEMORY, IBZ_NO_ROM, level, 64, journal, JOURNAL, 0);
 }
 
 /* What the words below count without a trace, and with one: 0 if the step is not traced. */
@@ -97,7 +97,7 @@ static void each(void) {
     EXPECT(counts(t->traced != 0 ? t->traced : t->clocks, t, t->sr | TRACE, 0x1000));
     /* a run of one step has the same, unless the machine is stopped */
     set_up(t, t->sr, 0x1000);
-    const struct ibz_run_answer a = ibz_run(block, BLOCK, 0, MEMORY, memory, MEMORY, 1, 0, journal, JOURNAL, 0);
+    const struct ibz_run_answer a = ibz_run(block, BLOCK, 0, MEMORY, memory, MEMORY, IBZ_NO_ROM, 1, 0, journal, JOURNAL, 0);
     EXPECT(a.number == 0 && a.steps == 1 && a.clocks == t->clocks);
   }
 }
@@ -122,16 +122,16 @@ static void others(void) {
   set_up(&moveq, 0x2300, 0x1000);
   ibz_set(block, IBZ_MODE, IBZ_MODE_STOPPED);
   EXPECT(step(0).clocks == 4 && step(3).clocks == 4);
-  const struct ibz_run_answer a = ibz_run(block, BLOCK, 0, MEMORY, memory, MEMORY, 9, 0, journal, JOURNAL, 0);
+  const struct ibz_run_answer a = ibz_run(block, BLOCK, 0, MEMORY, memory, MEMORY, IBZ_NO_ROM, 9, 0, journal, JOURNAL, 0);
   EXPECT(a.reason == IBZ_REASON_STOPPED && a.steps == 0 && a.clocks == 0);
   EXPECT(step(4).clocks == 44 && ibz_get(block, IBZ_MODE) == 0);
   set_up(&moveq, TRACE, 0x1000); /* an interrupt is not traced */
   EXPECT(step(1).clocks == 44);
   set_up(&moveq, 0x2700, 0x1000); /* one that is not taken: the instruction */
   EXPECT(step(6).clocks == 4);
-  const struct ibz_step_answer s = ibz_step(block, BLOCK - 1, 0, MEMORY, memory, MEMORY, 0, 0, journal, JOURNAL, 0);
+  const struct ibz_step_answer s = ibz_step(block, BLOCK - 1, 0, MEMORY, memory, MEMORY, IBZ_NO_ROM, 0, 0, journal, JOURNAL, 0);
   EXPECT(s.number == IBZ_NO_BLOCK && s.clocks == 0 && step(8).number == IBZ_BAD_REQUEST && step(8).clocks == 0);
-  const struct ibz_run_answer r = ibz_run(block, BLOCK - 1, 0, MEMORY, memory, MEMORY, 1, 0, journal, JOURNAL, 0);
+  const struct ibz_run_answer r = ibz_run(block, BLOCK - 1, 0, MEMORY, memory, MEMORY, IBZ_NO_ROM, 1, 0, journal, JOURNAL, 0);
   EXPECT(r.number == IBZ_NO_BLOCK && r.clocks == 0);
 }
 
@@ -142,10 +142,10 @@ static void sums(void) {
   for (uint32_t budget = 0; budget < 70; budget++) {
     set_up(&loop, USER, 0x1000);
     put(0x20A, 0xFFF6), put(0x20C, 0x4E40); /* after DBF: TRAP #0 to vector 32, which is 0 */
-    const struct ibz_run_answer a = ibz_run(block, BLOCK, 0, MEMORY, memory, MEMORY, budget, 0, journal, JOURNAL, 0);
+    const struct ibz_run_answer a = ibz_run(block, BLOCK, 0, MEMORY, memory, MEMORY, IBZ_NO_ROM, budget, 0, journal, JOURNAL, 0);
     EXPECT(a.number == 0 && a.steps == n && a.clocks == sum);
     if (a.reason != IBZ_REASON_BUDGET || ibz_get(block, IBZ_PC) == 0) break;
-    const struct ibz_step_answer s = ibz_step(block, BLOCK, 0, MEMORY, memory, MEMORY, 0, 0, journal, JOURNAL, a.mark);
+    const struct ibz_step_answer s = ibz_step(block, BLOCK, 0, MEMORY, memory, MEMORY, IBZ_NO_ROM, 0, 0, journal, JOURNAL, a.mark);
     sum += s.clocks, n += s.number == IBZ_DONE;
   }
   uint32_t wanted = 38 - 10 + 14; /* TRAP; the last DBF runs out */

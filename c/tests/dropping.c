@@ -36,17 +36,17 @@ static int same(const struct box *x, const struct box *y) {
 }
 
 static struct ibz_step_answer step(struct box *x, uint32_t level, uint8_t vector) {
-  return ibz_step(x->block, BLOCK, 0, (uint32_t)x->memory_length, x->memory, x->memory_length, level, vector, x->journal,
+  return ibz_step(x->block, BLOCK, 0, (uint32_t)x->memory_length, x->memory, x->memory_length, IBZ_NO_ROM, level, vector, x->journal,
                   x->journal_length, x->mark);
 }
 
 static struct ibz_run_answer run(struct box *x, uint32_t budget, uint32_t stop) {
-  return ibz_run(x->block, BLOCK, 0, (uint32_t)x->memory_length, x->memory, x->memory_length, budget, stop, x->journal,
+  return ibz_run(x->block, BLOCK, 0, (uint32_t)x->memory_length, x->memory, x->memory_length, IBZ_NO_ROM, budget, stop, x->journal,
                  x->journal_length, x->mark);
 }
 
 static struct ibz_undo_answer undo(struct box *x) {
-  return ibz_undo(x->block, BLOCK, 0, (uint32_t)x->memory_length, x->memory, x->memory_length, x->journal, x->journal_length, x->mark);
+  return ibz_undo(x->block, BLOCK, 0, (uint32_t)x->memory_length, x->memory, x->memory_length, IBZ_NO_ROM, x->journal, x->journal_length, x->mark);
 }
 
 /* ---- one call, held to what it has to be */
@@ -76,7 +76,8 @@ static struct ibz_step_answer one_step(struct box *x, uint32_t level, uint8_t ve
     return a;
   }
   const struct ibz_step_answer alone =
-      ibz_step_keeping(alone_block, BLOCK, 0, (uint32_t)x->memory_length, alone_memory, x->memory_length, level, vector, spare, SPARE, 0);
+      ibz_step_keeping(alone_block, BLOCK, 0, (uint32_t)x->memory_length, alone_memory, x->memory_length, IBZ_NO_ROM, level, vector, spare,
+                       SPARE, 0);
   EXPECT(alone.number == 0 && alone.moved == 0 && alone.dropped == 0);
   const size_t next = r.mark + put_record(wanted + r.mark, old_block, alone_block, old_memory, alone_memory, x->memory_length);
   EXPECT(a.number == 0 && a.event == alone.event && a.clocks == alone.clocks);
@@ -268,7 +269,7 @@ static void refusals(void) {
       if (records[i].shaped) continue;
       const struct ibz_run_answer b = one_run(&box, 5, 0x3F0); /* reason 6 is asked before 5 */
       EXPECT(b.number == 0 && b.reason == IBZ_REASON_RECORD && b.steps == 0 && b.mark == mark && b.moved == 0 && b.dropped == 0);
-      EXPECT(ibz_step_keeping(box.block, BLOCK, 0, 1024, box.memory, 1024, 0, 0, box.journal, 536, mark).number == IBZ_JOURNAL_FULL);
+      EXPECT(ibz_step_keeping(box.block, BLOCK, 0, 1024, box.memory, 1024, IBZ_NO_ROM, 0, 0, box.journal, 536, mark).number == IBZ_JOURNAL_FULL);
       EXPECT(run(&box, 0, 0x3F0).reason == IBZ_REASON_BUDGET); /* and after 1 to 4 */
       box.journal_length = 535;
       EXPECT(step(&box, 0, 0).number == IBZ_JOURNAL_FULL && run(&box, 5, 0x3F0).reason == IBZ_REASON_JOURNAL);
@@ -349,7 +350,7 @@ static void ways_back(unsigned long boxes) {
     for (; box.mark > 0 && one_undo(&box); left++) {}
     EXPECT(left == kept && box.mark == 0 && undo(&box).number == IBZ_NO_RECORD);
     const struct ibz_run_answer a =
-        ibz_run_keeping(start_block, BLOCK, 0, MEMORY, start_memory, MEMORY, steps - left, 0xFFFFFFFFu, journal, JOURNAL, 0);
+        ibz_run_keeping(start_block, BLOCK, 0, MEMORY, start_memory, MEMORY, IBZ_NO_ROM, steps - left, 0xFFFFFFFFu, journal, JOURNAL, 0);
     EXPECT(a.steps == steps - left && a.moved == 0 && a.dropped == 0 && same_state(&box, start_block, start_memory));
   }
 }
@@ -384,7 +385,7 @@ static void long_runs(void) {
       }
       starts[tail++ % JOURNAL] = base + x->mark;
       memcpy(old_block, x->block, BLOCK), memcpy(old_memory, x->memory, MEMORY);
-      clocks += ibz_step_keeping(x->block, BLOCK, 0, MEMORY, x->memory, MEMORY, 0, 0, spare, SPARE, 0).clocks;
+      clocks += ibz_step_keeping(x->block, BLOCK, 0, MEMORY, x->memory, MEMORY, IBZ_NO_ROM, 0, 0, spare, SPARE, 0).clocks;
       x->mark += put_record(x->journal + x->mark, old_block, x->block, old_memory, x->memory, MEMORY);
     }
     EXPECT(a.number == 0 && a.reason == IBZ_REASON_BUDGET && a.steps == STEPS && a.clocks == clocks);

@@ -380,7 +380,7 @@ static void of_steps(void) {
     memory[0x400 + 2 * i] = (uint8_t)(words[i] >> 8), memory[0x401 + 2 * i] = (uint8_t)words[i];
   memory[32 * 4 + 2] = 3, memory[0x300] = 0x4E, memory[0x301] = 0x73; /* TRAP #0's handler: RTE */
   memcpy(start, block, BLOCK), memcpy(old, memory, MEMORY);
-  const struct ibz_run_answer a = ibz_run_keeping(block, BLOCK, 0, MEMORY, memory, MEMORY, STEPS, 0xFFFFFFFFu, journal, JOURNAL, 0);
+  const struct ibz_run_answer a = ibz_run_keeping(block, BLOCK, 0, MEMORY, memory, MEMORY, IBZ_NO_ROM, STEPS, 0xFFFFFFFFu, journal, JOURNAL, 0);
   EXPECT(a.number == 0 && a.steps == STEPS && a.mark > 0);
   const size_t length = both_ways(2, journal, a.mark);
   EXPECT(length < a.mark); /* sixty bytes in one run */
@@ -389,7 +389,7 @@ static void of_steps(void) {
   EXPECT(two.number == 0 && two.length == length && one.number == 0 && one.length == a.mark);
   size_t mark = one.length;
   for (unsigned i = 0; i < STEPS; i++) {
-    const struct ibz_undo_answer u = ibz_undo(block, BLOCK, 0, MEMORY, memory, MEMORY, again, JOURNAL, mark);
+    const struct ibz_undo_answer u = ibz_undo(block, BLOCK, 0, MEMORY, memory, MEMORY, IBZ_NO_ROM, again, JOURNAL, mark);
     EXPECT(u.number == 0);
     mark = u.mark;
   }

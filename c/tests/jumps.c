@@ -54,12 +54,12 @@ static void set_up(const struct jump *j, unsigned sr) {
 static struct ibz_step_answer step(uint32_t level, uint8_t vector) {
   memcpy(old_block, block, sizeof block);
   memcpy(old_memory, memory, sizeof memory);
-  return ibz_step(block, BLOCK, 0, MEMORY, memory, MEMORY, level, vector, journal, JOURNAL, 0);
+  return ibz_step(block, BLOCK, 0, MEMORY, memory, MEMORY, IBZ_NO_ROM, level, vector, journal, JOURNAL, 0);
 }
 
 /* Whether undo leads back to what was before the step. */
 static int undone(size_t mark) {
-  const struct ibz_undo_answer a = ibz_undo(block, BLOCK, 0, MEMORY, memory, MEMORY, journal, JOURNAL, mark);
+  const struct ibz_undo_answer a = ibz_undo(block, BLOCK, 0, MEMORY, memory, MEMORY, IBZ_NO_ROM, journal, JOURNAL, mark);
   return a.number == 0 && a.mark == 0 && memcmp(block, old_block, BLOCK) == 0 && memcmp(memory, old_memory, MEMORY) == 0;
 }
 

@@ -153,13 +153,13 @@ static void try_one(const struct asked *q) {
   writes = 0;
   const unsigned event = movem(q);
   const struct ibz_step_answer a = checks % 2 == 0
-                                       ? ibz_step(block, BLOCK, lo, hi, memory, length, 0, 0, journal, JOURNAL, MARK)
-                                       : ibz_step_keeping(block, BLOCK, lo, hi, memory, length, 0, 0, journal, JOURNAL, MARK);
+                                       ? ibz_step(block, BLOCK, lo, hi, memory, length, IBZ_NO_ROM, 0, 0, journal, JOURNAL, MARK)
+                                       : ibz_step_keeping(block, BLOCK, lo, hi, memory, length, IBZ_NO_ROM, 0, 0, journal, JOURNAL, MARK);
   if (a.number != 0 || a.event != event) differs(q, "the event, with number", a.number, a.event, event);
   if (a.moved != 0 || a.dropped != 0) differs(q, "dropped, with moved", a.moved, (unsigned)a.dropped, 0);
   same(q, want, "after the step slot", "after the step the byte at");
   take_back(0);
-  const struct ibz_undo_answer u = ibz_undo(block, BLOCK, lo, hi, memory, length, journal, JOURNAL, a.mark);
+  const struct ibz_undo_answer u = ibz_undo(block, BLOCK, lo, hi, memory, length, IBZ_NO_ROM, journal, JOURNAL, a.mark);
   if (u.number != 0 || u.mark != MARK) differs(q, "undo's mark, with number", u.number, (unsigned)u.mark, MARK);
   same(q, old, "after undo slot", "after undo the byte at");
   for (unsigned i = 0; i < MARK; i++)

@@ -13,17 +13,17 @@ int main(void) {
   unsigned standing = 0;
   size_t mark = 0;
   if (fread(memory, 1, sizeof memory, stdin) == 0 && ferror(stdin)) return 2;
-  const struct ibz_reset_answer r = ibz_reset(block, sizeof block, memory, sizeof memory);
+  const struct ibz_reset_answer r = ibz_reset(block, sizeof block, memory, sizeof memory, IBZ_NO_ROM);
   line(standing, mark);
   for (int i = 0; i < 4; i++) {
     const struct ibz_step_answer a =
-        ibz_step_keeping(block, sizeof block, r.lo, r.hi, memory, sizeof memory, 0, 0, journal, sizeof journal, mark);
+        ibz_step_keeping(block, sizeof block, r.lo, r.hi, memory, sizeof memory, IBZ_NO_ROM, 0, 0, journal, sizeof journal, mark);
     mark = a.mark;
     standing += a.number == IBZ_DONE;
     line(standing, mark);
   }
   for (int i = 0; i < 4; i++) {
-    const struct ibz_undo_answer a = ibz_undo(block, sizeof block, r.lo, r.hi, memory, sizeof memory, journal, sizeof journal, mark);
+    const struct ibz_undo_answer a = ibz_undo(block, sizeof block, r.lo, r.hi, memory, sizeof memory, IBZ_NO_ROM, journal, sizeof journal, mark);
     mark = a.mark;
     standing -= a.number == IBZ_DONE;
     line(standing, mark);

@@ -38,6 +38,15 @@ static inline uint8_t *guarded(size_t n, int at_end) {
   return at_end ? p + page + room - n : p + page;
 }
 
+/* Such n bytes, of which then not one can be written; and a way to write them again. */
+static inline void may_write(uint8_t *p, size_t n, int at_end, int may) {
+  const size_t page = 65536, room = (n + page - 1) / page * page;
+  if (room != 0 && mprotect(at_end ? p + n - room : p, room, may ? PROT_READ | PROT_WRITE : PROT_READ) != 0) {
+    puts("a guarded buffer can not be made a ROM");
+    exit(2);
+  }
+}
+
 /* A number that looks random (xorshift64*), and one below n. */
 static uint64_t seed = 88172645463325252u;
 

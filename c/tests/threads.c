@@ -18,17 +18,17 @@ static uint8_t image[MEMORY];
 static void *work(void *p) {
   struct machine *x = (struct machine *)p;
   memcpy(x->memory, image, MEMORY);
-  ibz_reset(x->block, sizeof x->block, x->memory, MEMORY);
+  ibz_reset(x->block, sizeof x->block, x->memory, MEMORY, IBZ_NO_ROM);
   for (unsigned i = 0; i < TURNS; i++) {
     const struct ibz_run_answer a =
-        ibz_run(x->block, sizeof x->block, 0, MEMORY, x->memory, MEMORY, 300 + 7 * x->turn, 0xFFFFFFFFu, x->journal, JOURNAL, x->mark);
-    const struct ibz_step_answer s = ibz_step(x->block, sizeof x->block, 0, MEMORY, x->memory, MEMORY, (i + x->turn) % 8, (uint8_t)i,
+        ibz_run(x->block, sizeof x->block, 0, MEMORY, x->memory, MEMORY, IBZ_NO_ROM, 300 + 7 * x->turn, 0xFFFFFFFFu, x->journal, JOURNAL, x->mark);
+    const struct ibz_step_answer s = ibz_step(x->block, sizeof x->block, 0, MEMORY, x->memory, MEMORY, IBZ_NO_ROM, (i + x->turn) % 8, (uint8_t)i,
                                               x->journal, JOURNAL, a.mark);
     x->mark = s.mark;
     x->clocks += a.clocks + s.clocks;
     x->dropped += a.dropped + s.dropped;
     for (unsigned k = 0; k < 250 + x->turn; k++)
-      x->mark = ibz_undo(x->block, sizeof x->block, 0, MEMORY, x->memory, MEMORY, x->journal, JOURNAL, x->mark).mark;
+      x->mark = ibz_undo(x->block, sizeof x->block, 0, MEMORY, x->memory, MEMORY, IBZ_NO_ROM, x->journal, JOURNAL, x->mark).mark;
   }
   return NULL;
 }

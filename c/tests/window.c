@@ -44,18 +44,18 @@ static void set_up(uint32_t pc, const uint16_t *words, unsigned n, uint32_t a0, 
 }
 
 static struct ibz_step_answer step_at(uint32_t level, uint8_t vector, size_t mark) {
-  return ibz_step_keeping(block, BLOCK, lo, hi, memory, MEMORY, level, vector, journal, JOURNAL, mark);
+  return ibz_step_keeping(block, BLOCK, lo, hi, memory, MEMORY, IBZ_NO_ROM, level, vector, journal, JOURNAL, mark);
 }
 
 static struct ibz_step_answer step(void) { return step_at(0, 0, 0); }
 
 static struct ibz_try_answer try_from(uint32_t count, size_t length, size_t mark) {
-  return ibz_try(block, BLOCK, lo, hi, memory, MEMORY, count, journal, length, mark);
+  return ibz_try(block, BLOCK, lo, hi, memory, MEMORY, IBZ_NO_ROM, count, journal, length, mark);
 }
 
 /* Whether undo leads back to what was before, in the window it is given: records do not name one. */
 static int undone_in(uint32_t from, uint32_t to, size_t mark) {
-  const struct ibz_undo_answer a = ibz_undo(block, BLOCK, from, to, memory, MEMORY, journal, JOURNAL, mark);
+  const struct ibz_undo_answer a = ibz_undo(block, BLOCK, from, to, memory, MEMORY, IBZ_NO_ROM, journal, JOURNAL, mark);
   return a.number == 0 && a.mark == 0 && same_state();
 }
 
@@ -212,9 +212,9 @@ static int as_told(const struct access *x, int stack) {
     begin(x, stack, 0);
     struct ibz_try_answer t = {x->vector == 0 ? IBZ_END_SPENT : IBZ_END_EXCEPTION, 0, x->vector, 1, a.mark};
     size_t mark = a.mark;
-    if (call == 0) mark = ibz_step(block, BLOCK, lo, hi, memory, MEMORY, 0, 0, journal, JOURNAL, 0).mark;
-    if (call == 1) mark = ibz_run(block, BLOCK, lo, hi, memory, MEMORY, 1, 1, journal, JOURNAL, 0).mark;
-    if (call == 2) mark = ibz_run_keeping(block, BLOCK, lo, hi, memory, MEMORY, 1, 1, journal, JOURNAL, 0).mark;
+    if (call == 0) mark = ibz_step(block, BLOCK, lo, hi, memory, MEMORY, IBZ_NO_ROM, 0, 0, journal, JOURNAL, 0).mark;
+    if (call == 1) mark = ibz_run(block, BLOCK, lo, hi, memory, MEMORY, IBZ_NO_ROM, 1, 1, journal, JOURNAL, 0).mark;
+    if (call == 2) mark = ibz_run_keeping(block, BLOCK, lo, hi, memory, MEMORY, IBZ_NO_ROM, 1, 1, journal, JOURNAL, 0).mark;
     if (call == 3) t = try_from(1, JOURNAL, 0);
     good = good && mark == a.mark && memcmp(block, now_block, BLOCK) == 0 && memcmp(memory, now_memory, MEMORY) == 0;
     good = good && t.end == (x->vector == 0 ? IBZ_END_SPENT : IBZ_END_EXCEPTION) && t.number == 0 && t.vector == x->vector;
@@ -376,13 +376,13 @@ static void largest(int at_end) {
     ibz_set(block, IBZ_PC, CODE), ibz_set(block, IBZ_A0, cases[i].a0), ibz_set(block, IBZ_SSP, SSP);
     large[CODE] = (uint8_t)(cases[i].word >> 8), large[CODE + 1] = (uint8_t)cases[i].word;
     const struct ibz_step_answer a =
-        ibz_step_keeping(block, BLOCK, cases[i].lo, cases[i].hi, large, IBZ_MEMORY_MOST, 0, 0, journal, JOURNAL, 0);
+        ibz_step_keeping(block, BLOCK, cases[i].lo, cases[i].hi, large, IBZ_MEMORY_MOST, IBZ_NO_ROM, 0, 0, journal, JOURNAL, 0);
     EXPECT(a.number == 0 && a.event == (cases[i].vector == 0 ? 0 : cases[i].vector + 1));
     if (cases[i].vector != 0) EXPECT(ibz_get_fault(block, large, IBZ_MEMORY_MOST, &f) && f.address == cases[i].address && f.information == 0x11);
   }
-  const struct ibz_reset_answer r = ibz_reset(block, BLOCK, large, IBZ_MEMORY_MOST);
+  const struct ibz_reset_answer r = ibz_reset(block, BLOCK, large, IBZ_MEMORY_MOST, IBZ_NO_ROM);
   EXPECT(r.number == 0 && r.lo == 0 && r.hi == 0x1000000);
-  EXPECT(ibz_step(block, BLOCK, r.lo, r.hi + 1, large, IBZ_MEMORY_MOST, 0, 0, journal, JOURNAL, 0).number == IBZ_BAD_WINDOW);
+  EXPECT(ibz_step(block, BLOCK, r.lo, r.hi + 1, large, IBZ_MEMORY_MOST, IBZ_NO_ROM, 0, 0, journal, JOURNAL, 0).number == IBZ_BAD_WINDOW);
 }
 
 /* ---- refusal 10, in both states and in all modes */
@@ -402,22 +402,22 @@ static void refusals(void) {
         const uint32_t l = windows[i].lo, h = windows[i].hi, n = windows[i].number;
         set_up(CODE, moveq, 1, 0, sr), ibz_set(block, IBZ_MODE, mode), memset(journal, 0, 4), keep();
         const uint32_t halted = n == 0 && mode == 2 ? 6 : n;
-        const struct ibz_step_answer s = ibz_step(block, BLOCK, l, h, memory, MEMORY, 0, 0, journal, JOURNAL, 4);
+        const struct ibz_step_answer s = ibz_step(block, BLOCK, l, h, memory, MEMORY, IBZ_NO_ROM, 0, 0, journal, JOURNAL, 4);
         EXPECT(s.number == halted && (s.number == 0 || (s.mark == 4 && s.event == 0 && s.clocks == 0 && kept())));
         memcpy(block, old_block, BLOCK), memcpy(memory, old_memory, MEMORY), memcpy(journal, old_journal, JOURNAL);
-        const struct ibz_step_answer k = ibz_step_keeping(block, BLOCK, l, h, memory, MEMORY, 0, 0, journal, JOURNAL, 4);
+        const struct ibz_step_answer k = ibz_step_keeping(block, BLOCK, l, h, memory, MEMORY, IBZ_NO_ROM, 0, 0, journal, JOURNAL, 4);
         EXPECT(k.number == halted && (k.number == 0 || (k.mark == 4 && k.event == 0 && k.clocks == 0 && kept())));
         memcpy(block, old_block, BLOCK), memcpy(memory, old_memory, MEMORY), memcpy(journal, old_journal, JOURNAL);
-        const struct ibz_run_answer r = ibz_run(block, BLOCK, l, h, memory, MEMORY, 0, 0, journal, JOURNAL, 4);
+        const struct ibz_run_answer r = ibz_run(block, BLOCK, l, h, memory, MEMORY, IBZ_NO_ROM, 0, 0, journal, JOURNAL, 4);
         EXPECT(r.number == n && r.reason == (n == 0) && r.mark == 4 && r.steps == 0 && r.clocks == 0 && kept());
-        const struct ibz_run_answer q = ibz_run_keeping(block, BLOCK, l, h, memory, MEMORY, 0, 0, journal, JOURNAL, 4);
+        const struct ibz_run_answer q = ibz_run_keeping(block, BLOCK, l, h, memory, MEMORY, IBZ_NO_ROM, 0, 0, journal, JOURNAL, 4);
         EXPECT(q.number == n && q.reason == (n == 0) && q.mark == 4 && q.steps == 0 && q.clocks == 0 && kept());
-        const struct ibz_undo_answer u = ibz_undo(block, BLOCK, l, h, memory, MEMORY, journal, JOURNAL, 4);
+        const struct ibz_undo_answer u = ibz_undo(block, BLOCK, l, h, memory, MEMORY, IBZ_NO_ROM, journal, JOURNAL, 4);
         EXPECT(u.number == n && u.mark == (n == 0 ? 2u : 4u) && kept());
-        const struct ibz_try_answer t = ibz_try(block, BLOCK, l, h, memory, MEMORY, 0, journal, JOURNAL, 4);
+        const struct ibz_try_answer t = ibz_try(block, BLOCK, l, h, memory, MEMORY, IBZ_NO_ROM, 0, journal, JOURNAL, 4);
         EXPECT(t.number == halted && t.mark == 4 && t.steps == 0 && t.vector == 0 && kept());
         EXPECT(t.end == (t.number != 0 ? IBZ_END_REFUSED : sr != 0 ? IBZ_END_SUPERVISED : IBZ_END_SPENT));
-        const struct ibz_back_answer b = ibz_take_back(block, BLOCK, l, h, memory, MEMORY, journal, JOURNAL, 4, 2, 7, 9);
+        const struct ibz_back_answer b = ibz_take_back(block, BLOCK, l, h, memory, MEMORY, IBZ_NO_ROM, journal, JOURNAL, 4, 2, 7, 9);
         EXPECT(b.number == n && kept() && b.undone == (n == 0 ? 2u : 0u) && b.mark == (n == 0 ? 0u : 4u));
         EXPECT(b.lo == (n == 0 ? 7 : l) && b.hi == (n == 0 ? 9 : h));
       }
@@ -433,7 +433,8 @@ static int is(struct ibz_try_answer a, uint32_t end, uint32_t number, uint32_t v
  * was after it. */
 static int taken_back(uint32_t steps, size_t from, size_t to) {
   memcpy(old_journal, journal, JOURNAL);
-  const struct ibz_back_answer b = ibz_take_back(block, BLOCK, lo, hi, memory, MEMORY, journal, JOURNAL, from, steps, 0x123, 0xABCDEF01u);
+  const struct ibz_back_answer b =
+      ibz_take_back(block, BLOCK, lo, hi, memory, MEMORY, IBZ_NO_ROM, journal, JOURNAL, from, steps, 0x123, 0xABCDEF01u);
   return b.number == 0 && b.undone == steps && b.mark == to && b.lo == 0x123 && b.hi == 0xABCDEF01u && kept();
 }
 
@@ -538,37 +539,37 @@ static void backs(void) {
   const struct ibz_try_answer a = try_from(50, JOURNAL, 0);
   EXPECT(is(a, IBZ_END_EXCEPTION, 0, 4, 11, a.mark));
   memcpy(old_journal, journal, JOURNAL);
-  struct ibz_back_answer b = ibz_take_back(block, BLOCK, lo, hi, memory, MEMORY, journal, JOURNAL, a.mark, 12, 5, 6); /* one too many */
+  struct ibz_back_answer b = ibz_take_back(block, BLOCK, lo, hi, memory, MEMORY, IBZ_NO_ROM, journal, JOURNAL, a.mark, 12, 5, 6); /* one too many */
   EXPECT(b.number == IBZ_NO_RECORD && b.undone == 11 && b.mark == 0 && b.lo == LO && b.hi == HI && kept());
   EXPECT(try_from(50, JOURNAL, 0).mark == a.mark);
-  b = ibz_take_back(block, BLOCK, lo, hi, memory, MEMORY, journal, JOURNAL, a.mark, 0xFFFFFFFFu, 5, 6);
+  b = ibz_take_back(block, BLOCK, lo, hi, memory, MEMORY, IBZ_NO_ROM, journal, JOURNAL, a.mark, 0xFFFFFFFFu, 5, 6);
   EXPECT(b.number == IBZ_NO_RECORD && b.undone == 11 && b.mark == 0 && b.lo == LO && b.hi == HI && kept());
   EXPECT(try_from(50, JOURNAL, 0).mark == a.mark);
   size_t mark = a.mark;
   for (uint32_t i = 0; i < 11; i++) { /* one by one, and by undo in turns */
     if (i % 2 == 0) {
-      b = ibz_take_back(block, BLOCK, 0, MEMORY, memory, MEMORY, journal, JOURNAL, mark, 1, i, i + 1);
+      b = ibz_take_back(block, BLOCK, 0, MEMORY, memory, MEMORY, IBZ_NO_ROM, journal, JOURNAL, mark, 1, i, i + 1);
       EXPECT(b.number == 0 && b.undone == 1 && b.mark < mark && b.lo == i && b.hi == i + 1);
       mark = b.mark;
     } else {
-      mark = ibz_undo(block, BLOCK, lo, hi, memory, MEMORY, journal, JOURNAL, mark).mark;
+      mark = ibz_undo(block, BLOCK, lo, hi, memory, MEMORY, IBZ_NO_ROM, journal, JOURNAL, mark).mark;
     }
     EXPECT((i < 10) == (mark > 0));
   }
   EXPECT(kept());
   set_up(CODE, pattern, 6, 0, 0); /* no steps: nothing is looked at, and the old window is given, whatever it is */
-  b = ibz_take_back(block, BLOCK, 9, 8, memory, 7, journal, JOURNAL, SIZE_MAX, 0, 0xFFFFFFFFu, 3);
+  b = ibz_take_back(block, BLOCK, 9, 8, memory, 7, IBZ_NO_ROM, journal, JOURNAL, SIZE_MAX, 0, 0xFFFFFFFFu, 3);
   EXPECT(b.number == 0 && b.undone == 0 && b.mark == SIZE_MAX && b.lo == 0xFFFFFFFFu && b.hi == 3 && kept());
-  b = ibz_take_back(block, BLOCK, LO, HI, memory, MEMORY, journal, JOURNAL, 0, 1, 5, 6);
+  b = ibz_take_back(block, BLOCK, LO, HI, memory, MEMORY, IBZ_NO_ROM, journal, JOURNAL, 0, 1, 5, 6);
   EXPECT(b.number == IBZ_NO_RECORD && b.undone == 0 && b.mark == 0 && b.lo == LO && b.hi == HI && kept());
-  b = ibz_take_back(block, BLOCK, HI, LO, memory, MEMORY, journal, JOURNAL, 4, 1, 5, 6);
+  b = ibz_take_back(block, BLOCK, HI, LO, memory, MEMORY, IBZ_NO_ROM, journal, JOURNAL, 4, 1, 5, 6);
   EXPECT(b.number == IBZ_BAD_WINDOW && b.undone == 0 && b.mark == 4 && b.lo == HI && b.hi == LO && kept());
-  b = ibz_take_back(block, BLOCK, LO, HI, memory, MEMORY, journal, JOURNAL, 4, 1, 5, 6); /* bytes 0xEE: no record */
+  b = ibz_take_back(block, BLOCK, LO, HI, memory, MEMORY, IBZ_NO_ROM, journal, JOURNAL, 4, 1, 5, 6); /* bytes 0xEE: no record */
   EXPECT(b.number == IBZ_BAD_RECORD && b.undone == 0 && b.mark == 4 && b.lo == LO && b.hi == HI && kept());
   memset(journal + 4, 0, 6), keep(); /* three records above them */
-  b = ibz_take_back(block, BLOCK, LO, HI, memory, MEMORY, journal, JOURNAL, 10, 5, 5, 6);
+  b = ibz_take_back(block, BLOCK, LO, HI, memory, MEMORY, IBZ_NO_ROM, journal, JOURNAL, 10, 5, 5, 6);
   EXPECT(b.number == IBZ_BAD_RECORD && b.undone == 3 && b.mark == 4 && b.lo == LO && b.hi == HI && kept());
-  b = ibz_take_back(block, BLOCK, LO, HI, memory, MEMORY, journal, JOURNAL, JOURNAL + 1, 5, 5, 6);
+  b = ibz_take_back(block, BLOCK, LO, HI, memory, MEMORY, IBZ_NO_ROM, journal, JOURNAL, JOURNAL + 1, 5, 5, 6);
   EXPECT(b.number == IBZ_BAD_MARK && b.undone == 0 && b.mark == JOURNAL + 1 && b.lo == LO && b.hi == HI && kept());
 }
 
@@ -578,9 +579,9 @@ static void most(void) {
   static const uint16_t pattern[] = {0x60FE};
   uint8_t *const longer = guarded(LONG, 1);
   set_up(CODE, pattern, 1, 0, 0);
-  const struct ibz_try_answer a = ibz_try(block, BLOCK, lo, hi, memory, MEMORY, IBZ_BUDGET_MOST, longer, LONG, 0);
+  const struct ibz_try_answer a = ibz_try(block, BLOCK, lo, hi, memory, MEMORY, IBZ_NO_ROM, IBZ_BUDGET_MOST, longer, LONG, 0);
   EXPECT(is(a, IBZ_END_SPENT, 0, 0, 1000000, 2000000) && same_state());
-  const struct ibz_back_answer b = ibz_take_back(block, BLOCK, lo, hi, memory, MEMORY, longer, LONG, a.mark, a.steps, 1, 2);
+  const struct ibz_back_answer b = ibz_take_back(block, BLOCK, lo, hi, memory, MEMORY, IBZ_NO_ROM, longer, LONG, a.mark, a.steps, 1, 2);
   EXPECT(b.number == 0 && b.undone == 1000000 && b.mark == 0 && b.lo == 1 && b.hi == 2 && same_state());
 }
 

@@ -35,7 +35,7 @@ static void try_word(unsigned word, const char *name, int supervisor) {
   ibz_set(block, IBZ_SR, sr);
   memcpy(block_before, block, BLOCK);
   memcpy(memory_before, memory, MEMORY);
-  const struct ibz_step_answer a = ibz_step(block, BLOCK, 0, MEMORY, memory, MEMORY, 0, 0, journal, JOURNAL, 0);
+  const struct ibz_step_answer a = ibz_step(block, BLOCK, 0, MEMORY, memory, MEMORY, IBZ_NO_ROM, 0, 0, journal, JOURNAL, 0);
   const uint32_t vector = a.event == IBZ_EVENT_NONE || a.event == IBZ_EVENT_HALT ? 0 : a.event - 1;
   const int refuses = vector == 4 || vector == 8 || vector == 10 || vector == 11;
   EXPECT(a.number == IBZ_DONE);
@@ -44,7 +44,7 @@ static void try_word(unsigned word, const char *name, int supervisor) {
     EXPECT(ibz_get(block, IBZ_SSP) == SSP - 6 && get_long(SSP - 4) == AT && ((unsigned)memory[SSP - 6] << 8 | memory[SSP - 5]) == sr);
     EXPECT(memcmp(block, block_before, 4 * IBZ_SSP) == 0);
   }
-  const struct ibz_undo_answer u = ibz_undo(block, BLOCK, 0, MEMORY, memory, MEMORY, journal, JOURNAL, a.mark);
+  const struct ibz_undo_answer u = ibz_undo(block, BLOCK, 0, MEMORY, memory, MEMORY, IBZ_NO_ROM, journal, JOURNAL, a.mark);
   EXPECT(u.number == IBZ_DONE && u.mark == 0);
   EXPECT(memcmp(block, block_before, BLOCK) == 0 && memcmp(memory, memory_before, MEMORY) == 0);
   if (fails != failed) printf("  at %04x %s, SR %04x\n", word, name, sr);

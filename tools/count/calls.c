@@ -20,21 +20,21 @@ int main(int argc, char **argv) {
   const int step = !loop && !step_keeping;
   unsigned long left = strtoul(argv[2], NULL, 10);
   volatile size_t mark = 0;
-  ibz_reset(block, sizeof block, memory, MEMORY);
+  ibz_reset(block, sizeof block, memory, MEMORY, IBZ_NO_ROM);
   while ((run || run_keeping) && left > 0) {
     const uint32_t budget = left < IBZ_BUDGET_MOST ? (uint32_t)left : IBZ_BUDGET_MOST;
     const struct ibz_run_answer a =
-        run ? ibz_run(block, sizeof block, 0, MEMORY, memory, MEMORY, budget, 0xFFFFFFFFu, journal, sizeof journal, 0)
-            : ibz_run_keeping(block, sizeof block, 0, MEMORY, memory, MEMORY, budget, 0xFFFFFFFFu, journal, sizeof journal, 0);
+        run ? ibz_run(block, sizeof block, 0, MEMORY, memory, MEMORY, IBZ_NO_ROM, budget, 0xFFFFFFFFu, journal, sizeof journal, 0)
+            : ibz_run_keeping(block, sizeof block, 0, MEMORY, memory, MEMORY, IBZ_NO_ROM, budget, 0xFFFFFFFFu, journal, sizeof journal, 0);
     if (a.number != 0 || a.steps != budget) return 3;
     left -= a.steps;
   }
   for (; left > 0; left--) {
     mark = 0;
-    if (step) mark = ibz_step(block, block_length, 0, (uint32_t)length, memory, length, 0, 0, journal, 1024, mark).mark;
-    if (step_keeping) mark = ibz_step_keeping(block, sizeof block, 0, MEMORY, memory, MEMORY, 0, 0, journal, 1024, mark).mark;
-    if (undo) mark = ibz_undo(block, sizeof block, 0, MEMORY, memory, MEMORY, journal, 1024, mark).mark;
-    if (undo) mark = ibz_step(block, sizeof block, 0, MEMORY, memory, MEMORY, 0, 0, journal, 1024, mark).mark;
+    if (step) mark = ibz_step(block, block_length, 0, (uint32_t)length, memory, length, IBZ_NO_ROM, 0, 0, journal, 1024, mark).mark;
+    if (step_keeping) mark = ibz_step_keeping(block, sizeof block, 0, MEMORY, memory, MEMORY, IBZ_NO_ROM, 0, 0, journal, 1024, mark).mark;
+    if (undo) mark = ibz_undo(block, sizeof block, 0, MEMORY, memory, MEMORY, IBZ_NO_ROM, journal, 1024, mark).mark;
+    if (undo) mark = ibz_step(block, sizeof block, 0, MEMORY, memory, MEMORY, IBZ_NO_ROM, 0, 0, journal, 1024, mark).mark;
   }
   printf("%08X\n", (unsigned)ibz_get(block, IBZ_PC));
   return 0;

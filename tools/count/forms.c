@@ -13,9 +13,9 @@ static uint8_t block[IBZ_BLOCK_LENGTH], memory[MEMORY], one[JOURNAL], two[JOURNA
 int main(int argc, char **argv) {
   if (argc != 4 || fread(memory, 1, MEMORY, stdin) < 8) return 2;
   const unsigned long rows = strtoul(argv[2], NULL, 10) / STEPS;
-  ibz_reset(block, sizeof block, memory, MEMORY);
+  ibz_reset(block, sizeof block, memory, MEMORY, IBZ_NO_ROM);
   const struct ibz_run_answer a =
-      ibz_run_keeping(block, sizeof block, 0, MEMORY, memory, MEMORY, STEPS, 0xFFFFFFFFu, one, sizeof one, 0);
+      ibz_run_keeping(block, sizeof block, 0, MEMORY, memory, MEMORY, IBZ_NO_ROM, STEPS, 0xFFFFFFFFu, one, sizeof one, 0);
   if (a.number != 0 || a.steps != STEPS || a.mark > sizeof one / rows) return 3;
   const size_t length = rows * a.mark;
   for (size_t i = a.mark; i < length; i++) one[i] = one[i - a.mark];
