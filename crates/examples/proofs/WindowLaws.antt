@@ -2,7 +2,7 @@
 -- window-rows-hold. A fetch that fails gives the operation word 0, ORI.B #,D0: `Integer` is there for it.
 -- Uses: step and all below it.
 use mathlib.Core.Path.{_≡_, refl}
-use mathlib.Core.List.{map, _++_}
+use mathlib.Core.List.{map}
 use Rattle.bits.specs.Bits as Bits
 use Rattle.flags.specs.Flags as Flags
 use Rattle.bus.specs.Bus as Bus
@@ -20,10 +20,10 @@ use Rattle.exception.specs.Exceptions as Exceptions
 use Rattle.execute.specs.Dispatch as Dispatch
 use Rattle.step.specs.Steps as Steps
 use Rattle.examples.specs.WindowRows.{WindowRow, window-rows}
-use Rattle.examples.specs.RomRows.{rom-rows}
+use Rattle.examples.specs.RomRows.{rom-rows-and}
 
-pub window-rows-hold : map (λ (e : WindowRow). Steps.one-step (e .board) (e .slots) (e .memory) (e .level) (e .vector)) (window-rows ++ rom-rows)
-    ≡ map (λ (e : WindowRow). e .left) (window-rows ++ rom-rows)
+pub window-rows-hold : map (λ (e : WindowRow). Steps.one-step (e .board) (e .slots) (e .memory) (e .level) (e .vector)) (rom-rows-and window-rows)
+    ≡ map (λ (e : WindowRow). e .left) (rom-rows-and window-rows)
 unfolding Bits.iter Bits.by-size Bits.sign-byte Bits.sign-word
     Flags.flags
     Bus.all-of Bus.seen-by Bus.read-byte Bus.read-word Bus.read-long Bus.read-sized Bus.room Bus.next-word Bus.next-long Bus.put-word Bus.put-long

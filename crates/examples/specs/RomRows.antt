@@ -23,7 +23,7 @@ from-rom =
       left = record { s = set (with-stack 0x5678 0 0x280 0x300 0x0000) 17 0xF00004; m = before []; event = 0 };
     }
 
--- in user state: TRAP #0 whose frame would lie in the ROM halts, and nothing else changes  [01 step 8] [K10]
+-- in user state: TRAP #0 whose frame would lie in the ROM halts; PC is past it, and nothing else changes  [01 step 8] [K10]
 abbrev pub frame-in-rom : WindowRow
 frame-in-rom =
     record {
@@ -32,12 +32,12 @@ frame-in-rom =
       memory = before (0x4E40 ∷ []);
       level = 0;
       vector = 0;
-      left = record { s = set (with-stack 0 0 0 0xF00004 0x0000) 19 2; m = before (0x4E40 ∷ []); event = 257 };
+      left = record { s = set (set (with-stack 0 0 0 0xF00004 0x0000) 17 0x202) 19 2; m = before (0x4E40 ∷ []); event = 257 };
     }
 
--- the rows: reads at the ROM's ends and the window's; writes; a read-modify-write reads first; a fetch; a frame  [K10]
-abbrev pub rom-rows : List WindowRow
-rom-rows =
+-- the rows, before others: reads at the ROM's ends and the window's; writes; a read-modify-write reads first; a fetch; a frame  [K10]
+abbrev pub rom-rows-and : List WindowRow → List WindowRow
+rom-rows-and rows =
     let-in (stocked 0 0) 0 0xF00000 0x2000 (0x3010 ∷ []) 0x303C 0x202 []  -- MOVE.W (A0),D0 in supervisor state: the first word
     ∷ let-in (stocked 0x200 0xF00004) 0 0xF00002 0x0000 (0x3010 ∷ []) 0x5678 0x202 []  -- in user state: the last word
     ∷ shut-out (stocked 0x200 0xF00003) 0 0xF00002 0 (0x3010 ∷ []) 3 (0x11 ∷ 0xF0 ∷ 2 ∷ 0x3010 ∷ 0 ∷ 0 ∷ 0x202 ∷ [])  -- a word that hi cuts
@@ -54,4 +54,4 @@ rom-rows =
     ∷ shut-out (stocked 0x200 0xF00004) 0 0xF00000 0 (0x4890 ∷ 0x0003 ∷ []) 3 (0x01 ∷ 0xF0 ∷ 0 ∷ 0x4890 ∷ 0 ∷ 0 ∷ 0x202 ∷ [])  -- MOVEM.W to the ROM
     ∷ from-rom
     ∷ frame-in-rom
-    ∷ []
+    ∷ rows
