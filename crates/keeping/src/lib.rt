@@ -35,7 +35,16 @@ pub fn step_keeping(
 ) -> StepAnswer
     ensures { λ a. ⌜ StepPromise Keeping (board-of win (now (rom .entry))) (now (slots .entry)) (now (memory .entry)) level vector (now (journal .entry)) mark (now (slots .exit)) (now (memory .exit)) (now (journal .exit)) a ⌝ }
 {
-    let number = answers::step_number(Manner::Keeping, slots, win, memory, rom, level, journal, mark);
+    let number = answers::step_number(
+        Manner::Keeping,
+        slots,
+        win,
+        memory,
+        rom,
+        level,
+        journal,
+        mark,
+    );
     let good = number == 0;
     if good {
         let mut log = [0u64; BYTE_LIMIT];
@@ -137,7 +146,17 @@ pub fn run_keeping(
     let good = number == 0;
     if good {
         let mut log = [0u64; BYTE_LIMIT];
-        return running(slots, win, memory, rom, budget, stop, journal, mark, &mut log);
+        return running(
+            slots,
+            win,
+            memory,
+            rom,
+            budget,
+            stop,
+            journal,
+            mark,
+            &mut log,
+        );
     }
     RunAnswer {
         number,

@@ -53,7 +53,16 @@ pub fn step(
 ) -> StepAnswer
     ensures { λ a. ⌜ StepPromise Dropping (board-of win (now (rom .entry))) (now (slots .entry)) (now (memory .entry)) level vector (now (journal .entry)) mark (now (slots .exit)) (now (memory .exit)) (now (journal .exit)) a ⌝ }
 {
-    let number = answers::step_number(Manner::Dropping, slots, win, memory, rom, level, journal, mark);
+    let number = answers::step_number(
+        Manner::Dropping,
+        slots,
+        win,
+        memory,
+        rom,
+        level,
+        journal,
+        mark,
+    );
     let good = number == 0;
     if good {
         let size = taken::bytes(journal);
@@ -117,7 +126,17 @@ pub fn run(
     let good = number == 0;
     if good {
         let mut log = [0u64; BYTE_LIMIT];
-        let a = keeping::running(slots, win, memory, rom, budget, stop, journal, mark, &mut log);
+        let a = keeping::running(
+            slots,
+            win,
+            memory,
+            rom,
+            budget,
+            stop,
+            journal,
+            mark,
+            &mut log,
+        );
         let full = (a.reason == 4) & (LONGEST_RECORD <= journal.len());
         if full {
             return full::running_full(
