@@ -13,7 +13,7 @@ use lib.ListN.{length, getD, List·getD-eq-default}
 use lib.Dec.{ltb, leb, eqb}
 use borrow.Author.Tests.{le-leb, leb-true, eqb-true, ltb-true, ltb-false}
 use Rattle.codes.specs.Codes.{RomStart, MostRom, Sr, Mode}
-use Rattle.bits.proofs.BitsLaws.{and-left, and-right}
+use Rattle.bits.proofs.BitsLaws.{and-left, and-right, or-cases}
 use Rattle.bus.specs.Bus.{Board}
 use Rattle.bank.specs.Bank.{sr-of, mode-of}
 use Rattle.record.specs.Limits.{slot-limit, longest-record, valid-status, valid-value, Each, ValidSlots, ValidBytes}
@@ -39,11 +39,6 @@ pub record Valid (s m : List ℕ) : Type 0 where
   pub fits : memory-fits m ≡ true
 
 -- ---- the tests of the calls
--- one of two
-or-cases : (a b : Bool) {C : Type 0} → (a || b) ≡ true → (a ≡ true → C) → (b ≡ true → C) → C
-or-cases true b e f g = f refl
-or-cases false b e f g = g e
-
 -- a memory that fits
 pub fits-inv : (m : List ℕ) → memory-fits m ≡ true → (length m % 2 ≡ 0) × (1024 ≤ length m) × (length m ≤ 16777216)
 fits-inv m e =

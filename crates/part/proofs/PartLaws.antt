@@ -12,27 +12,22 @@ use borrow.Author.Tests.{leb-true, leb-false, le-leb, eqb-true, eqb-false, eq-eq
 use denote.Ref.{RefT, ptr, now}
 use Rattle.codes.specs.Codes.{RomStart}
 use Rattle.bits.specs.Bits.{pick}
-use Rattle.bits.proofs.BitsLaws.{and-left, and-right}
+use Rattle.bits.proofs.BitsLaws.{and-left, and-right, and-both, same-test}
 use Rattle.calls.specs.Calls.{memory-fits, rom-fits, reset-number}
 use Rattle.calls.specs.Refusals.{zero-at-end}
 use Rattle.calls.proofs.RefusalLaws.{Verdict, verdict, given-pick, memory-given, rom-given}
 use Rattle.part.specs.Part.{lies, Where, in-memory, in-rom, refused, where-is, number-of, PartOf, Placed, PartPromise, Fits, part-table, SamePart}
 
 -- ---- whether a part lies in a slice
-bool-of : (x y : Bool) → (x ≡ true → y ≡ true) → (y ≡ true → x ≡ true) → x ≡ y
-bool-of true y h k = sym (h refl)
-bool-of false true h k = k refl
-bool-of false false h k = refl
-
 module _ (n a l : ℕ) where
   pub lies-near : leb a n ≡ true → leb l (n - a) ≡ lies n a l
   lies-near h =
-      bool-of (leb l (n - a)) (leb (a + l) n)
+      same-test (leb l (n - a)) (leb (a + l) n)
       (λ t. le-leb (a + l) n (omega (arith, leb-true a n h, leb-true l (n - a) t)))
       (λ t. le-leb l (n - a) (omega (arith, leb-true (a + l) n t)))
 
   pub lies-far : leb a n ≡ false → false ≡ lies n a l
-  lies-far h = bool-of false (leb (a + l) n) (λ t. cc) (λ t. absurd (omega (arith, leb-false a n h, leb-true (a + l) n t)))
+  lies-far h = same-test false (leb (a + l) n) (λ t. cc) (λ t. absurd (omega (arith, leb-false a n h, leb-true (a + l) n t)))
 
   pub lies-end : (b : Bool) → b ≡ lies n a l → b ≡ true → a + l ≤ n
   lies-end b e t = leb-true (a + l) n (sym e ∙ t)
@@ -104,13 +99,10 @@ module _ (m rom : List ℕ) (a l : ℕ) where
   neither e = (
     λ f. clash (lies (length m) a l) (leb RomStart a && lies (length rom) (a - RomStart) l) e (λ h k. h (le-leb (a + l) (length m) (omega (arith, f .to)))),
     λ f. clash (lies (length m) a l) (leb RomStart a && lies (length rom) (a - RomStart) l) e
-        (λ h k. k (both-true (leb RomStart a) (lies (length rom) (a - RomStart) l) (le-leb RomStart a (f .from))
+        (λ h k. k (and-both (leb RomStart a) (lies (length rom) (a - RomStart) l) (le-leb RomStart a (f .from))
         (le-leb (a - RomStart + l) (length rom) (omega (arith, f .from, f .to))))),
   )
     where
-      both-true : (x y : Bool) → x ≡ true → y ≡ true → (x && y) ≡ true
-      both-true x y h k = cc
-
       clash : (x y : Bool) → (x || y) ≡ false → ((x ≡ true → ⊥) → (y ≡ true → ⊥) → ⊥) → ⊥
       clash true y e h = let z : _≡_ {A = ℕ} 0 1 = cc in absurd (omega (arith, z))
       clash false true e h = let z : _≡_ {A = ℕ} 0 1 = cc in absurd (omega (arith, z))

@@ -12,7 +12,7 @@ use lib.Dec.{ltb, leb}
 use borrow.Author.Tests.{leb-true, leb-false, ltb-true, ltb-false, le-leb, lt-ltb}
 use Rattle.codes.specs.Codes.{RomStart}
 use Rattle.bits.specs.Bits.{pick}
-use Rattle.bits.proofs.BitsLaws.{and-left, and-right}
+use Rattle.bits.proofs.BitsLaws.{and-left, and-right, and-both, same-test}
 use Rattle.bus.specs.declared.Window.{Window}
 use Rattle.bus.specs.Bus.{View, Board, board-of, two-at, all-of, as-rom, beside, allowed, fenced, seen-by, byte-within, word-within, between, rom-of, view-of, whole}
 use Rattle.bus.proofs.BusLaws.{whole-shows}
@@ -58,32 +58,24 @@ unfolding up-to
 up-to-is a len = less-by a len (ltb a len) refl
 
 -- ---- tests
-bool-of : (x y : Bool) → (x ≡ true → y ≡ true) → (y ≡ true → x ≡ true) → x ≡ y
-bool-of true y h k = sym (h refl)
-bool-of false true h k = k refl
-bool-of false false h k = refl
-
-both-true : (x y : Bool) → x ≡ true → y ≡ true → (x && y) ≡ true
-both-true x y h k = cc
-
 -- a place of s bytes, the last at top; the window from lo to hi
 window-test : (lo hi n u v a top s : ℕ) → Less lo n u → Less hi n v → top + 1 ≡ a + s → a ≤ top
     → (leb u a && ltb top v) ≡ ((leb lo a && leb (a + s) hi) && ltb top n)
 window-test lo hi n u v a top s p q e l =
-    bool-of (leb u a && ltb top v) ((leb lo a && leb (a + s) hi) && ltb top n)
+    same-test (leb u a && ltb top v) ((leb lo a && leb (a + s) hi) && ltb top n)
     (λ t.
     let x = leb-true u a (and-left (leb u a) (ltb top v) t) in
     let y = ltb-true top v (and-right (leb u a) (ltb top v) t) in
     let z = p .above a x (omega (arith, y, q .all, l)) in
-    both-true (leb lo a && leb (a + s) hi) (ltb top n)
-    (both-true (leb lo a) (leb (a + s) hi) (le-leb lo a z) (le-leb (a + s) hi (omega (arith, y, q .near, e))))
+    and-both (leb lo a && leb (a + s) hi) (ltb top n)
+    (and-both (leb lo a) (leb (a + s) hi) (le-leb lo a z) (le-leb (a + s) hi (omega (arith, y, q .near, e))))
     (lt-ltb top n (omega (arith, y, q .all))))
     (λ t.
     let g = and-left (leb lo a && leb (a + s) hi) (ltb top n) t in
     let x = leb-true lo a (and-left (leb lo a) (leb (a + s) hi) g) in
     let y = leb-true (a + s) hi (and-right (leb lo a) (leb (a + s) hi) g) in
     let z = ltb-true top n (and-right (leb lo a && leb (a + s) hi) (ltb top n) t) in
-    both-true (leb u a) (ltb top v) (le-leb u a (omega (arith, p .near, x)))
+    and-both (leb u a) (ltb top v) (le-leb u a (omega (arith, p .near, x)))
     (lt-ltb top v (q .below top z (omega (arith, y, e)))))
 
 -- ---- the parts
@@ -166,15 +158,15 @@ past-start win = record { lo = win .lo - RomStart; hi = win .hi - RomStart }
 place-test : (win : Window) (a s : ℕ) → leb RomStart a ≡ true → allowed false (past-start win) (a - RomStart) (1 + s) ≡ allowed false win a (1 + s)
 place-test win a s t =
     let g = leb-true RomStart a t in
-    bool-of (allowed false (past-start win) (a - RomStart) (1 + s)) (allowed false win a (1 + s))
+    same-test (allowed false (past-start win) (a - RomStart) (1 + s)) (allowed false win a (1 + s))
     (λ h.
     let x = leb-true (win .lo - RomStart) (a - RomStart) (and-left (leb (win .lo - RomStart) (a - RomStart)) (leb (a - RomStart + (1 + s)) (win .hi - RomStart)) h) in
     let y = leb-true (a - RomStart + (1 + s)) (win .hi - RomStart) (and-right (leb (win .lo - RomStart) (a - RomStart)) (leb (a - RomStart + (1 + s)) (win .hi - RomStart)) h) in
-    both-true (leb (win .lo) a) (leb (a + (1 + s)) (win .hi)) (le-leb (win .lo) a (omega (arith, x, g))) (le-leb (a + (1 + s)) (win .hi) (omega (arith, y, g))))
+    and-both (leb (win .lo) a) (leb (a + (1 + s)) (win .hi)) (le-leb (win .lo) a (omega (arith, x, g))) (le-leb (a + (1 + s)) (win .hi) (omega (arith, y, g))))
     (λ h.
     let x = leb-true (win .lo) a (and-left (leb (win .lo) a) (leb (a + (1 + s)) (win .hi)) h) in
     let y = leb-true (a + (1 + s)) (win .hi) (and-right (leb (win .lo) a) (leb (a + (1 + s)) (win .hi)) h) in
-    both-true (leb (win .lo - RomStart) (a - RomStart)) (leb (a - RomStart + (1 + s)) (win .hi - RomStart))
+    and-both (leb (win .lo - RomStart) (a - RomStart)) (leb (a - RomStart + (1 + s)) (win .hi - RomStart))
     (le-leb (win .lo - RomStart) (a - RomStart) (omega (arith, x, g)))
     (le-leb (a - RomStart + (1 + s)) (win .hi - RomStart) (omega (arith, y, g))))
 
