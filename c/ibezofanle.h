@@ -24,7 +24,7 @@
  * reads what it is to write reads it there, and fails as it writes. An exception whose frame would lie in it halts the machine, as every
  * frame that can not be written. So no record names an address of the ROM, and a record that does is refused (IBZ_BAD_RECORD). A reset's
  * window has nothing of it: a program in user state reaches the ROM once you give a hi above 0xF00000. Give every call the same ROM, as
- * every call the same memory. A ROM of 0 bytes is none: memory may then reach beyond 0xF00000, and hi goes by its length.
+ * every call the same memory. A ROM of 0 bytes is none: memory may then reach beyond 0xF00000, and hi goes by memory's length.
  *
  * The window fences user state, where SR has no bit 0x2000 (S). There a byte or a word that is read or written and does not lie wholly in
  * it, be it an operation word, an extension word, an operand or on the stack, is a bus error, as outside memory and ROM; a word at an odd
@@ -56,10 +56,10 @@
  * Steps and undos read form 1 only: a journal that was posted is converted back first. The bytes do not tell which form they are in, and
  * some are well shaped in both: say it beside them.
  *
- * Every answer has a `number`: 0 if the call was done, else why it was refused (enum ibz_number). A refused step, run or undo
- * leaves block, memory, journal and mark as they were. A refused reset sets the halted state, 2 in slot 19 and 0 in every other; but
- * a block that is not 80 bytes long (IBZ_NO_BLOCK) is never written. Of a try and of taking back, what came before the refused step or
- * undo stays done. A refused conversion leaves every byte of the target as it was.
+ * Every answer has a `number`, and ibz_part returns it: 0 if the call was done, else why it was refused (enum ibz_number). A refused step,
+ * run or undo leaves block, memory, journal and mark as they were. A refused reset sets the halted state, 2 in slot 19 and 0 in every
+ * other; but a block that is not 80 bytes long (IBZ_NO_BLOCK) is never written. Of a try and of taking back, what came before the refused
+ * step or undo stays done. A refused conversion leaves every byte of the target as it was.
  *
  * The calls take any values whatever: any bytes in block, memory, ROM, journal and target, any lengths, any mark, any window. Each ends, and
  * touches nothing but what it was lent. That is proved of the library, for a caller who keeps to what no C function can check:
@@ -71,7 +71,7 @@
  *   - nobody else uses them during the call. The library itself keeps nothing between calls and has no variables: several threads
  *     may call it at the same time, each on a machine of its own. One ROM may be lent to several machines, as long as nobody writes it.
  *
- * It needs no start, allocates nothing, takes some 2 KiB of stack, an ibz_run 15 KiB, and calls nothing from outside but memset.
+ * It needs no start, allocates nothing, takes some 2 KiB of stack, an ibz_run 15 KiB, and calls nothing from outside but memset and memcpy.
  *
  * Later versions will add members to the end of answers, and arguments to calls: compile host and library from one version,
  * IBZ_VERSION. */
