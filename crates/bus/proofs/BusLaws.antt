@@ -1,17 +1,17 @@
 -- BusLaws.antt - one law for each return of the functions of bus: the leaves on the parts, all others over any view. whole-shows: the parts
 -- of all of a memory and of a ROM show all of both. room-keeps: asking for room changes no more of a flow than its fault.
 -- Uses: bits.
-use Prim.Native.Nat.{ℕ, zero, suc, _+_, _-_, _*_, _%_, _<_}
+use Prim.Native.Nat.{ℕ, zero, suc, _+_, _-_, _*_, _%_, _^_, _<_}
 use native.Mathlib.Omega.{arith}
 use mathlib.Core.Path.{_≡_, refl, ap, _∙_}
 use mathlib.Core.Bool.{Bool, true, false, _&&_, _||_}
 use mathlib.Core.List.{List, [], _∷_, map}
 use lib.ListN.{length, getD}
 use lib.Dec.{ltb, leb, eqb}
-use borrow.Author.Tests.{ltb-true, le-leb, le-ltb}
+use borrow.Author.Tests.{leb-true, ltb-true, le-leb, le-ltb}
 use Rattle.codes.specs.Codes.{RomStart}
 use Rattle.bits.specs.Bits.{pick, plus, by-size}
-use Rattle.bits.proofs.BitsLaws.{and-right}
+use Rattle.bits.proofs.BitsLaws.{and-left, and-right}
 use Rattle.bus.specs.declared.Flow.{Flow}
 use Rattle.bus.specs.declared.Fetched.{Fetched}
 use Rattle.bus.specs.Bus.{View, two-at, all-of, as-rom, beside, part, byte-within, word-within, between, rom-of, view-of, whole, pins, failed, with-pc}
@@ -117,34 +117,43 @@ module _ (q : List (List ℕ)) (a k : ℕ) (f : Flow) (first : ℕ) (m : List �
     unfolding read-word view-of rom-of
     word-not-free g o t e = cc
 
--- those of the ROM: first is the length of the third part, m the fourth
-module _ (q : List (List ℕ)) (p k : ℕ) (f : Flow) where
-  module _ (first : ℕ) (m : List ℕ) (s : leb RomStart p ≡ true) (l : first ≡ length (part q 2)) (h : m ≡ part q 3) where
-    pub rom-byte-inside : (v : ℕ) → (leb first (p - RomStart) && ltb (p - RomStart) (length m)) ≡ true → v ≡ getD m (p - RomStart) 0 → fetched v f ≡ found-byte (rom-of q) p k f
-    unfolding rom-of
-    rom-byte-inside v t e = cc
+-- those of the ROM: i is the place of p, which is one of the ROM's where p is not below its start
+module _ (p i : ℕ) (w : (i + RomStart) % 2 ^ 32 ≡ p) (small : i < 2 ^ 32) where
+  same-place : leb RomStart p ≡ true → i ≡ p - RomStart
+  same-place t = omega (arith, leb-true RomStart p t)
 
-    pub rom-byte-outside : (g : Flow) → (leb first (p - RomStart) && ltb (p - RomStart) (length m)) ≡ false → g ≡ failed f 2 p k → fetched 0 g ≡ found-byte (rom-of q) p k f
-    unfolding rom-of
-    rom-byte-outside g t e = cc
+  asked-there : (first : ℕ) (g : ℕ → Bool) → ((leb RomStart p && leb first i) && g i) ≡ (leb RomStart p && (leb first (p - RomStart) && g (p - RomStart)))
+  asked-there first g = go (leb RomStart p) refl
+    where
+      go : (b : Bool) → leb RomStart p ≡ b → ((b && leb first i) && g i) ≡ (b && (leb first (p - RomStart) && g (p - RomStart)))
+      go true t = ap (λ (n : ℕ). leb first n && g n) (same-place t)
+      go false t = refl
 
-    pub rom-word-inside : (x y : ℕ) → (leb first (p - RomStart) && ltb (p - RomStart + 1) (length m)) ≡ true → x ≡ getD m (p - RomStart) 0 → y ≡ getD m (p - RomStart + 1) 0
-        → fetched (x * 256 + y) f ≡ found-word (rom-of q) p k f
-    unfolding rom-of
-    rom-word-inside x y t e d = cc
+-- first is the length of the third part, m the fourth
+module _ (q : List (List ℕ)) (p k : ℕ) (f : Flow) (i first : ℕ) (m : List ℕ) (w : (i + RomStart) % 2 ^ 32 ≡ p) (small : i < 2 ^ 32)
+    (l : first ≡ length (part q 2)) (h : m ≡ part q 3) where
+  pub rom-byte-inside : (v : ℕ) → ((leb RomStart p && leb first i) && ltb i (length m)) ≡ true → v ≡ getD m i 0 → fetched v f ≡ found-byte (rom-of q) p k f
+  unfolding rom-of
+  rom-byte-inside v t e =
+      let a = asked-there p i w small first (λ n. ltb n (length m)) in
+      let r = and-left (leb RomStart p) (leb first i) (and-left (leb RomStart p && leb first i) (ltb i (length m)) t) in
+      let z = same-place p i w small r in cc
 
-    pub rom-word-outside : (g : Flow) → (leb first (p - RomStart) && ltb (p - RomStart + 1) (length m)) ≡ false → g ≡ failed f 2 p k → fetched 0 g ≡ found-word (rom-of q) p k f
-    unfolding rom-of
-    rom-word-outside g t e = cc
+  pub rom-byte-outside : (g : Flow) → ((leb RomStart p && leb first i) && ltb i (length m)) ≡ false → g ≡ failed f 2 p k → fetched 0 g ≡ found-byte (rom-of q) p k f
+  unfolding rom-of
+  rom-byte-outside g t e = let a = asked-there p i w small first (λ n. ltb n (length m)) in cc
 
-  module _ (g : Flow) (s : leb RomStart p ≡ false) (e : g ≡ failed f 2 p k) where
-    pub rom-byte-below : fetched 0 g ≡ found-byte (rom-of q) p k f
-    unfolding rom-of
-    rom-byte-below = cc
+  pub rom-word-inside : (x y : ℕ) → ((leb RomStart p && leb first i) && ltb (i + 1) (length m)) ≡ true → x ≡ getD m i 0 → y ≡ getD m (i + 1) 0
+      → fetched (x * 256 + y) f ≡ found-word (rom-of q) p k f
+  unfolding rom-of
+  rom-word-inside x y t e d =
+      let a = asked-there p i w small first (λ n. ltb (n + 1) (length m)) in
+      let r = and-left (leb RomStart p) (leb first i) (and-left (leb RomStart p && leb first i) (ltb (i + 1) (length m)) t) in
+      let z = same-place p i w small r in cc
 
-    pub rom-word-below : fetched 0 g ≡ found-word (rom-of q) p k f
-    unfolding rom-of
-    rom-word-below = cc
+  pub rom-word-outside : (g : Flow) → ((leb RomStart p && leb first i) && ltb (i + 1) (length m)) ≡ false → g ≡ failed f 2 p k → fetched 0 g ≡ found-word (rom-of q) p k f
+  unfolding rom-of
+  rom-word-outside g t e = let a = asked-there p i w small first (λ n. ltb (n + 1) (length m)) in cc
 
 module _ (v : View) (a k : ℕ) (f : Flow) where
   pub word-odd : (g : Flow) → eqb (f .bad) 0 ≡ true → eqb (pins a % 2) 1 ≡ true → g ≡ failed f 3 (pins a) k → fetched 0 g ≡ read-word v a k f

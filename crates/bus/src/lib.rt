@@ -111,26 +111,20 @@ fn rom_below<'a, 'b>(mem: &'a Parts<'b>) -> &'b [u8]
     mem[3]
 }
 
-// A byte at 24 bits that memory does not have.
+// A byte at 24 bits that memory does not have. The place is one of the ROM only where p is not below its start.
 fn rom_byte(mem: &Parts, p: u32, k: u32, f: Flow) -> Fetched
     ensures { λ r. ⌜ r ≡ found-byte (rom-of (map now (now (mem .entry)))) p k f ⌝ }
     ensures { λ r. ⌜ r .value < 256 ⌝ }
 {
     let there = codes::ROM_START <= p;
-    if there {
-        let i = (p - codes::ROM_START) as usize;
-        let first = rom_low(mem);
-        let rom = rom_below(mem);
-        let inside = (first <= i) & (i < rom.len());
-        if inside {
-            return Fetched {
-                value: bits::wide(rom[i]),
-                flow: f,
-            };
-        }
+    let i = std::num::wrapping_sub_u32(p, codes::ROM_START) as usize;
+    let first = rom_low(mem);
+    let rom = rom_below(mem);
+    let inside = there & (first <= i) & (i < rom.len());
+    if inside {
         return Fetched {
-            value: 0,
-            flow: failed(f, codes::BUS_ERROR, p, k),
+            value: bits::wide(rom[i]),
+            flow: f,
         };
     }
     Fetched {
@@ -145,20 +139,14 @@ fn rom_word(mem: &Parts, p: u32, k: u32, f: Flow) -> Fetched
     ensures { λ r. ⌜ r .value < 65536 ⌝ }
 {
     let there = codes::ROM_START <= p;
-    if there {
-        let i = (p - codes::ROM_START) as usize;
-        let first = rom_low(mem);
-        let rom = rom_below(mem);
-        let inside = (first <= i) & (i + 1 < rom.len());
-        if inside {
-            return Fetched {
-                value: bits::wide(rom[i]) * 256 + bits::wide(rom[i + 1]),
-                flow: f,
-            };
-        }
+    let i = std::num::wrapping_sub_u32(p, codes::ROM_START) as usize;
+    let first = rom_low(mem);
+    let rom = rom_below(mem);
+    let inside = there & (first <= i) & (i + 1 < rom.len());
+    if inside {
         return Fetched {
-            value: 0,
-            flow: failed(f, codes::BUS_ERROR, p, k),
+            value: bits::wide(rom[i]) * 256 + bits::wide(rom[i + 1]),
+            flow: f,
         };
     }
     Fetched {

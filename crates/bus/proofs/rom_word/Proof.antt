@@ -1,4 +1,4 @@
-use Rattle.bus.proofs.BusLaws.{rom-word-inside, rom-word-outside, rom-word-below, and-lt, and-lt-before}
+use Rattle.bus.proofs.BusLaws.{rom-word-inside, rom-word-outside, and-lt, and-lt-before}
 use borrow.Author.Needs.{needs}
 use Rattle.bus.proofs.rom_word.Statement.{statement}
 use Rattle.bus.proofs.rom_word.Tie as tie
@@ -6,7 +6,7 @@ use Rattle.bus.proofs.rom_word.Tie as tie
 pub rom-word-spec : {M : Type 1} → statement M
 rom-word-spec =
     tie.close (tie.spec
-    (λ c. search needs)
+    (λ c κs. search needs)
     (λ c. search needs)
     (λ c κs. search needs)
     (λ c κs. search needs)
@@ -20,6 +20,4 @@ rom-word-spec =
     (λ c. search needs)
     (λ c. (search rom-word-inside, search needs))
     (λ c κs. search needs)
-    (λ c. (search rom-word-outside, search needs))
-    (λ c κs. search needs)
-    (λ c. (search rom-word-below, search needs)))
+    (λ c. (search rom-word-outside, search needs)))
