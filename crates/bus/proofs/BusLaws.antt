@@ -1,17 +1,17 @@
 -- BusLaws.antt - one law for each return of the functions of bus: the leaves on the parts, all others over any view. whole-shows: the parts
 -- of all of a memory and of a ROM show all of both. room-keeps: asking for room changes no more of a flow than its fault.
 -- Uses: bits.
-use Prim.Native.Nat.{ℕ, zero, suc, _+_, _-_, _*_, _%_, _^_, _<_}
+use Prim.Native.Nat.{ℕ, zero, suc, _+_, _-_, _*_, _%_, _^_, _<_, _≤_}
 use native.Mathlib.Omega.{arith}
-use mathlib.Core.Path.{_≡_, refl, ap, _∙_}
+use mathlib.Core.Path.{_≡_, refl, sym, ap, _∙_}
 use mathlib.Core.Bool.{Bool, true, false, _&&_, _||_}
 use mathlib.Core.List.{List, [], _∷_, map}
 use lib.ListN.{length, getD}
 use lib.Dec.{ltb, leb, eqb}
-use borrow.Author.Tests.{leb-true, ltb-true, le-leb, le-ltb}
+use borrow.Author.Tests.{leb-true, ltb-true, eqb-true, le-leb, lt-ltb, le-ltb, ne-eqb}
 use Rattle.codes.specs.Codes.{RomStart}
 use Rattle.bits.specs.Bits.{pick, plus, by-size}
-use Rattle.bits.proofs.BitsLaws.{and-left, and-right}
+use Rattle.bits.proofs.BitsLaws.{and-left, and-right, and-both}
 use Rattle.bus.specs.declared.Flow.{Flow}
 use Rattle.bus.specs.declared.Fetched.{Fetched}
 use Rattle.bus.specs.Bus.{View, two-at, all-of, as-rom, beside, part, byte-within, word-within, between, rom-of, view-of, whole, pins, failed, with-pc}
@@ -26,6 +26,12 @@ and-lt x a b e = ltb-true a b (and-right x (ltb a b) e)
 
 pub and-lt-before : (x : Bool) (a b : ℕ) → (x && ltb (a + 1) b) ≡ true → a < b
 and-lt-before x a b e = omega (arith, and-lt x (a + 1) b e)
+
+pub and-lt-two : (x : Bool) (a b : ℕ) → (x && ltb (a + 3) b) ≡ true → a + 1 < b
+and-lt-two x a b e = omega (arith, and-lt x (a + 3) b e)
+
+pub and-lt-four : (x : Bool) (a b : ℕ) → (x && ltb (a + 3) b) ≡ true → a + 2 + 1 < b
+and-lt-four x a b e = omega (arith, and-lt x (a + 3) b e)
 
 -- the part at i of a list of loans
 pub part-is : {A : Type 0} (g : A → List ℕ) (l : List A) (i : ℕ) (d : A) → g (getD l i d) ≡ getD (map g l) i (g d)
@@ -171,6 +177,36 @@ module _ (v : View) (a k : ℕ) (f : Flow) where
   pub long-is : (h l : Fetched) (b : ℕ) → h ≡ read-word v a k f → b ≡ plus a 2 → l ≡ read-word v b k (h .flow) → fetched (h .value * 65536 + l .value) (l .flow) ≡ read-long v a k f
   unfolding read-long
   long-is h l b p e q = cc
+
+-- a long that lies wholly in memory: first is the length of the first part, m the second; b is the test of its last byte
+module _ (q : List (List ℕ)) (a k : ℕ) (f : Flow) (first : ℕ) (m : List ℕ) (l : first ≡ length (part q 0)) (h : m ≡ part q 1) where
+  abbrev plain : Bool
+  plain = ((((eqb (f .bad) 0 && eqb (pins a % 2) 0) && ltb (pins a) 16777212) && leb first (pins a)) && ltb (pins a + 3) (length m))
+
+  pub long-inside : (x y : ℕ) → plain ≡ true → x ≡ two-at m (pins a) → y ≡ two-at m (pins a + 2) → fetched (x * 65536 + y) f ≡ read-long (view-of q) a k f
+  long-inside x y t d e =
+      let t₄ = and-left (((eqb (f .bad) 0 && eqb (pins a % 2) 0) && ltb (pins a) 16777212) && leb first (pins a)) (ltb (pins a + 3) (length m)) t in
+      let end = and-lt (((eqb (f .bad) 0 && eqb (pins a % 2) 0) && ltb (pins a) 16777212) && leb first (pins a)) (pins a + 3) (length m) t in
+      let t₃ = and-left ((eqb (f .bad) 0 && eqb (pins a % 2) 0) && ltb (pins a) 16777212) (leb first (pins a)) t₄ in
+      let from = leb-true first (pins a) (and-right ((eqb (f .bad) 0 && eqb (pins a % 2) 0) && ltb (pins a) 16777212) (leb first (pins a)) t₄) in
+      let t₂ = and-left (eqb (f .bad) 0 && eqb (pins a % 2) 0) (ltb (pins a) 16777212) t₃ in
+      let high = and-lt (eqb (f .bad) 0 && eqb (pins a % 2) 0) (pins a) 16777212 t₃ in
+      let clean = and-left (eqb (f .bad) 0) (eqb (pins a % 2) 0) t₂ in
+      let even = eqb-true (pins a % 2) 0 (and-right (eqb (f .bad) 0) (eqb (pins a % 2) 0) t₂) in
+      let next : pins (plus a 2) ≡ pins a + 2 = omega (arith, high) in
+      let upper = word-inside q a k f first m clean l h (getD m (pins a) 0) (getD m (pins a + 1) 0) (ne-eqb (pins a % 2) 1 (λ z. omega (arith, even, z)))
+      (and-both (leb first (pins a)) (ltb (pins a + 1) (length m)) (le-leb first (pins a) from) (lt-ltb (pins a + 1) (length m) (omega (arith, end)))) refl refl in
+      let lower = lower-is next (omega (arith, even)) (omega (arith, from)) (omega (arith, end)) clean in
+      cc (long-is (view-of q) a k f (fetched (two-at m (pins a)) f) (fetched (two-at m (pins a + 2)) f) (plus a 2) upper refl lower, d, e)
+    where
+      lower-is : pins (plus a 2) ≡ pins a + 2 → (pins a + 2) % 2 ≡ 0 → first ≤ pins a + 2 → pins a + 2 + 1 < length m → eqb (f .bad) 0 ≡ true
+          → fetched (two-at m (pins a + 2)) f ≡ read-word (view-of q) (plus a 2) k f
+      lower-is n o g u c =
+          ap (λ (i : ℕ). fetched (two-at m i) f) (sym n)
+          ∙ word-inside q (plus a 2) k f first m c l h (getD m (pins (plus a 2)) 0) (getD m (pins (plus a 2) + 1) 0)
+          (ne-eqb (pins (plus a 2) % 2) 1 (λ z. omega (arith, n, o, z)))
+          (and-both (leb first (pins (plus a 2))) (ltb (pins (plus a 2) + 1) (length m)) (le-leb first (pins (plus a 2)) (omega (arith, n, g)))
+          (lt-ltb (pins (plus a 2) + 1) (length m) (omega (arith, n, u)))) refl refl
 
 module _ (v : View) (a z : ℕ) (f : Flow) where
   pub room-byte : (g : Flow) → eqb z 0 ≡ true → g ≡ read-byte (for-writing v) a 1 f .flow → g ≡ room v a z f

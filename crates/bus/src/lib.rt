@@ -5,7 +5,7 @@ ghost use mathlib.Core.Path.{_≡_};
 ghost use mathlib.Core.List.{[], map};
 ghost use Prim.Native.Nat.{_+_, _*_, _%_, _/_, _<_};
 ghost use lib.ListN.{length};
-ghost use Rattle.bus.specs.Bus.{all-of, part, rom-of, view-of, whole, failed, with-pc, with-sr, found-byte, found-word, read-byte, read-word, read-long, read-sized};
+ghost use Rattle.bus.specs.Bus.{two-at, all-of, part, rom-of, view-of, whole, failed, with-pc, with-sr, found-byte, found-word, read-byte, read-word, read-long, read-sized};
 ghost use Rattle.bus.specs.Bus.{for-writing, room, next-word, next-long};
 
 // The addresses that user state may touch: from lo to below hi. The host sets it; no step or undo changes it.
@@ -212,10 +212,37 @@ pub fn read_word(mem: &Parts, a: u32, k: u32, f: Flow) -> Fetched
     }
 }
 
-// Two words, the upper first.
+// Below this address a long does not go on at address 0.
+const WHOLE_LONGS: u32 = codes::ADDRESSES - 4;
+
+// The two bytes of a slice at a place, high byte first.
+fn two_at(there: &[u8], i: usize) -> u32
+    requires { ⌜ i + 1 < length (now there) ⌝ }
+    ensures { λ r. ⌜ r ≡ two-at (now (there .entry)) i ⌝ }
+    ensures { λ r. ⌜ r < 65536 ⌝ }
+{
+    bits::wide(there[i]) * 256 + bits::wide(there[i + 1])
+}
+
+// Two words, the upper first. Where both lie in memory, and the second is not at address 0 again, they are asked for at once.
 pub fn read_long(mem: &Parts, a: u32, k: u32, f: Flow) -> Fetched
     ensures { λ r. ⌜ r ≡ read-long (view-of (map now (now (mem .entry)))) a k f ⌝ }
 {
+    let p = a % codes::ADDRESSES;
+    let i = p as usize;
+    let first = low(mem);
+    let there = below(mem);
+    let plain = (f.bad == 0)
+        & (p % 2 == 0)
+        & (p < WHOLE_LONGS)
+        & (first <= i)
+        & (i + 3 < there.len());
+    if plain {
+        return Fetched {
+            value: two_at(there, i) * 65536 + two_at(there, i + 2),
+            flow: f,
+        };
+    }
     let h = read_word(mem, a, k, f);
     let hf = h.flow;
     let l = read_word(mem, std::num::wrapping_add_u32(a, 2), k, hf);
