@@ -9,7 +9,7 @@ ghost use Rattle.alu.specs.Alu.{moved, and, or, exclusive_or, complement, extend
 ghost use Rattle.alu.specs.Alu.{check};
 
 // A sum or difference: its value, whether that is negative, overflow, carry or borrow.
-#[derive(Drop)]
+#[derive(Clone, Copy)]
 pub struct Outcome {
     pub r: u32,
     pub n: bool,

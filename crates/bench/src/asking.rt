@@ -28,7 +28,7 @@ pub const ROM: u32 = 9;
 pub const NO_COUNT: u64 = 1000000000000;
 
 // What the arguments asked so far: the bytes that are lent, and the steps to run now, or NO_COUNT.
-#[derive(Drop)]
+#[derive(Clone, Copy)]
 pub struct Asked {
     pub next: u32,
     pub loaded: bool,

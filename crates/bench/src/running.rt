@@ -26,7 +26,7 @@ pub const SINGLY: u32 = 5;
 
 // How far a run is: steps to do, steps done, journal bytes written and their hash, clocks. Where steps are undone and done again
 // each counts its clocks both times. Where records are dropped: the mark, and the sums of bytes moved and of records dropped.
-#[derive(Drop)]
+#[derive(Clone, Copy)]
 pub struct Progress {
     pub left: u64,
     pub steps: u64,
@@ -107,7 +107,7 @@ fn budget(left: u64) -> u32 {
 }
 
 // What a run did: its steps, the journal's mark after it, and its clocks.
-#[derive(Drop)]
+#[derive(Clone, Copy)]
 struct Part {
     steps: u64,
     mark: usize,

@@ -6,7 +6,7 @@ ghost use Rattle.bus.specs.Bus.{two_at, all_of, part, rom_of, view_of, whole, fa
 ghost use Rattle.bus.specs.Bus.{for_writing, room, next_word, next_long};
 
 // The addresses that user state may touch: from lo to below hi. The host sets it; no step or undo changes it.
-#[derive(Drop)]
+#[derive(Clone, Copy)]
 pub struct Window {
     pub lo: u32,
     pub hi: u32,
@@ -20,7 +20,7 @@ pub type Parts<'a> = [&'a [u8]; PARTS];
 
 // Where an instruction stands: the next word's address, the status register, and the fault so far, 0 if none: the 24-bit address
 // of the access times 256, the information word times 4, and the vector, 2 or 3.
-#[derive(Drop)]
+#[derive(Clone, Copy)]
 pub struct Flow {
     pub pc: u32,
     pub sr: u32,
@@ -28,7 +28,7 @@ pub struct Flow {
 }
 
 // A number that was read (0 after a fault), and where the instruction then stands.
-#[derive(Drop)]
+#[derive(Clone, Copy)]
 pub struct Fetched {
     pub value: u32,
     pub flow: Flow,

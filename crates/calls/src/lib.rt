@@ -3,7 +3,7 @@
 // Means: specs/Calls.antt.  Uses: nothing.  Source: [01 Calls and what they give back], [K2], [K5], [K7].
 
 // What a step or a run does where the journal is full: it drops the fewest oldest records that make room, or it keeps them all and ends.
-#[derive(Drop)]
+#[derive(Clone, Copy)]
 pub enum Manner {
     Dropping,
     Keeping,
@@ -14,7 +14,7 @@ pub enum Manner {
 
 // A reset's answer: the refusal's number or 0, and the window then: from lo to below hi, all of memory; 0 and 0 where it is refused.
 #[repr(C)]
-#[derive(Drop)]
+#[derive(Clone, Copy)]
 pub struct ResetAnswer {
     pub number: u32,
     pub lo: u32,
@@ -25,7 +25,7 @@ pub struct ResetAnswer {
 // the clocks that the step took; the bytes of the journal that were moved and the records that were dropped to make room. Where it is
 // refused these three are 0.
 #[repr(C)]
-#[derive(Drop)]
+#[derive(Clone, Copy)]
 pub struct StepAnswer {
     pub number: u32,
     pub event: u32,
@@ -38,7 +38,7 @@ pub struct StepAnswer {
 // A run's answer: the refusal's number or 0, the reason why it ended, the mark, the number of steps done, and the sums of their clocks,
 // of the bytes moved (at most the largest number of 64 bits) and of the records dropped.
 #[repr(C)]
-#[derive(Drop)]
+#[derive(Clone, Copy)]
 pub struct RunAnswer {
     pub number: u32,
     pub reason: u32,
@@ -51,7 +51,7 @@ pub struct RunAnswer {
 
 // An undo's answer: the refusal's number or 0, and the mark.
 #[repr(C)]
-#[derive(Drop)]
+#[derive(Clone, Copy)]
 pub struct UndoAnswer {
     pub number: u32,
     pub mark: usize,

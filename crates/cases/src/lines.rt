@@ -5,7 +5,7 @@ use libc::STDIN_FILENO;
 
 // How far the reading is: the chunk's bytes from `at` to `end` belong to no line yet. A length above the room of a line
 // says that the line is too long.
-#[derive(Drop)]
+#[derive(Clone, Copy)]
 pub struct Reading {
     pub at: usize,
     pub end: usize,

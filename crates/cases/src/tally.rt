@@ -7,7 +7,7 @@ use libc::STDOUT_FILENO;
 // how many of the cases that differ are named
 const NAMED: u64 = 300;
 
-#[derive(Drop)]
+#[derive(Clone, Copy)]
 pub struct Tally {
     pub agree: u64,
     pub differ: u64,

@@ -11,7 +11,7 @@ pub const NO_NUMBER: u64 = 4294967296;
 // What `byte_at` answers where there is none.
 pub const NO_BYTE: u32 = 256;
 
-#[derive(Drop)]
+#[derive(Clone, Copy)]
 struct Digits {
     value: u32,
     count: u32,

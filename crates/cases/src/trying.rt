@@ -44,7 +44,7 @@ fn put_undone(text: &[u8], slots: &mut [u32; SLOTS], memory: &mut [u8]) -> bool 
 }
 
 // A step's number, mark and clocks.
-#[derive(Drop)]
+#[derive(Clone, Copy)]
 struct Taken {
     number: u32,
     mark: usize,
@@ -52,7 +52,7 @@ struct Taken {
 }
 
 // An undo's number and mark.
-#[derive(Drop)]
+#[derive(Clone, Copy)]
 struct Answer {
     number: u64,
     mark: usize,

@@ -13,7 +13,7 @@ use codes::SLOTS;
 
 // How an exception, or a step, ended: the entries of the touch log, and the event: none, 1 more than the vector taken first, or a
 // halt.
-#[derive(Drop)]
+#[derive(Clone, Copy)]
 pub struct Ended {
     pub n: usize,
     pub event: u32,

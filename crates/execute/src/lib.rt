@@ -14,7 +14,7 @@ use plan::Plan;
 mod families;
 
 // What is to be done for an instruction, and how many clocks it takes if it takes no exception.
-#[derive(Drop)]
+#[derive(Clone, Copy)]
 pub struct Timed {
     pub plan: Plan,
     pub clocks: u32,

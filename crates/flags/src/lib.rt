@@ -5,7 +5,7 @@ ghost use Rattle.std.specs.Prelude.{◌≡◌, ◌+◌, ◌*◌, ◌%◌, ◌/�
 ghost use Rattle.flags.specs.Flags.{flags, x_of, n_of, z_of, v_of, c_of, with_ccr, sr_bits, condition, condition_by};
 
 // A result and the five flags that go with it.
-#[derive(Drop)]
+#[derive(Clone, Copy)]
 pub struct Flagged {
     pub value: u32,
     pub ccr: u32,

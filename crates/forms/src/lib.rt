@@ -20,21 +20,21 @@ use runs::read::shaped_two;
 use undo::{Last, shaped_record};
 
 // The forms of a journal: the one that steps write, and the one for posting.
-#[derive(Drop)]
+#[derive(Clone, Copy)]
 pub enum Form {
     One,
     Two,
 }
 
 // A record that was converted: its length in the other form, and where it starts in the journal; or none.
-#[derive(Drop)]
+#[derive(Clone, Copy)]
 pub enum Converted {
     Record(usize, usize),
     Nothing,
 }
 
 // The length of the journal in the other form; or a record of it is not well shaped; or there is too little space.
-#[derive(Drop)]
+#[derive(Clone, Copy)]
 pub enum Measured {
     Fits(usize),
     Torn,
@@ -42,7 +42,7 @@ pub enum Measured {
 }
 
 // The space that is left, or that there was too little.
-#[derive(Drop)]
+#[derive(Clone, Copy)]
 pub struct Space {
     pub fits: bool,
     pub left: usize,
@@ -50,7 +50,7 @@ pub struct Space {
 
 // The number, 0 or a refusal, and the length of the other form.
 #[repr(C)]
-#[derive(Drop)]
+#[derive(Clone, Copy)]
 pub struct FormAnswer {
     pub number: u32,
     pub length: usize,

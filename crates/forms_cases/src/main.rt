@@ -37,14 +37,14 @@ const OTHER_LENGTH: u32 = 3;
 
 const OTHER_TARGET: u32 = 4;
 
-#[derive(Drop)]
+#[derive(Clone, Copy)]
 struct Progress {
     reading: Reading,
     tally: Tally,
 }
 
 // The refusal's number or 0, and the length of the other form.
-#[derive(Drop)]
+#[derive(Clone, Copy)]
 struct Answer {
     number: u64,
     length: u64,

@@ -25,7 +25,7 @@ use starts::{NEAR, POSTS};
 const UNTURNED: usize = 2 * LONGEST_RECORD;
 
 // The mark, the bytes moved and the records dropped where room is there or was made; and what is known of the journal then.
-#[derive(Drop)]
+#[derive(Clone, Copy)]
 struct Made {
     mark: usize,
     moved: usize,

@@ -16,7 +16,7 @@ use starts::near::{first_kept, refill};
 use turned::{drop_turned, move_to, turn_back};
 
 // What make_room answers, with the number 0; how far the journal is turned, the first entry of the list, and all bytes dropped so far.
-#[derive(Drop)]
+#[derive(Clone, Copy)]
 pub struct Held {
     pub mark: usize,
     pub dropped: usize,

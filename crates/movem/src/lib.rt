@@ -11,7 +11,7 @@ use plan::Plan;
 
 // How a list of 16 bits is walked, lowest bit first: the size of each part that it has, the list, the address of its first part,
 // and the way from one part to the next.
-#[derive(Drop)]
+#[derive(Clone, Copy)]
 pub struct Way {
     pub size: u32,
     pub list: u32,
@@ -20,7 +20,7 @@ pub struct Way {
 }
 
 // Where a walk stands: what is left of the list, the place of its lowest bit, the address, the flow.
-#[derive(Drop)]
+#[derive(Clone, Copy)]
 pub struct Spot {
     pub list: u32,
     pub index: u32,

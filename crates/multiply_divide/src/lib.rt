@@ -7,7 +7,7 @@ ghost use Rattle.multiply_divide.specs.MultiplyDivide.{signed_long, signed_word,
 ghost use Rattle.multiply_divide.specs.MultiplyDivide.{zero_divide, quotient_result, divide_signed, divide_unsigned};
 
 // What a division leaves: the register, the five flags, and whether the divisor was 0.
-#[derive(Drop)]
+#[derive(Clone, Copy)]
 pub struct Divided {
     pub value: u32,
     pub ccr: u32,
@@ -15,7 +15,7 @@ pub struct Divided {
 }
 
 // A quotient and its remainder.
-#[derive(Drop)]
+#[derive(Clone, Copy)]
 struct Parts {
     q: i64,
     r: i64,

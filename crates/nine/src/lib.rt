@@ -6,7 +6,7 @@ use codes::SLOTS;
 use libc::STDOUT_FILENO;
 
 // The steps that stand, and the mark.
-#[derive(Drop)]
+#[derive(Clone, Copy)]
 struct Standing {
     steps: u32,
     mark: usize,

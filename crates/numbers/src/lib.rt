@@ -5,7 +5,7 @@ ghost use Rattle.std.specs.Prelude.{◌≡◌, ◌+◌, ◌-◌, ◌*◌, ◌^�
 ghost use Rattle.numbers.specs.Number.{number_bytes, written, GroupsIs, NumberIs};
 
 // A number and the place where it starts, or no number.
-#[derive(Drop)]
+#[derive(Clone, Copy)]
 pub enum Reading {
     Number(u32, usize),
     Bad,

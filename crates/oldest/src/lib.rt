@@ -12,14 +12,14 @@ use record::limits::{BYTE_LIMIT, LONGEST_RECORD, SLOT_LIMIT};
 use undo::{Last, shaped_record};
 
 // Where the kept records begin, and how many are dropped; or a record on the way back is not well shaped.
-#[derive(Drop)]
+#[derive(Clone, Copy)]
 pub enum Cut {
     At(usize, usize),
     Torn,
 }
 
 // The number of the refusal or 0, the mark, the bytes moved and the records dropped.
-#[derive(Drop)]
+#[derive(Clone, Copy)]
 pub struct Room {
     pub number: u32,
     pub mark: usize,

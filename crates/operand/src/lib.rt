@@ -12,7 +12,7 @@ use codes::SLOTS;
 
 // Where an operand lies, by its kind: the register `at`, memory at `at` (read by the kind of access), or the number `at` itself. `reg`
 // takes the value `step`, if it is a register. `flow` is where the instruction stands then.
-#[derive(Drop)]
+#[derive(Clone, Copy)]
 pub struct Operand {
     pub kind: u32,
     pub at: u32,
@@ -23,7 +23,7 @@ pub struct Operand {
 }
 
 // An operand that is read and will be written: its value, and its place with the flow after the read.
-#[derive(Drop)]
+#[derive(Clone, Copy)]
 pub struct Both {
     pub value: u32,
     pub q: Operand,

@@ -12,7 +12,7 @@ use operand::Operand;
 // The write of `value` at `at`: `write` is its size, or none, or one of the blocks of `codes` (of MOVEM's, `value` is the list, and 65,536 times
 // the register that the list's address came from). `vector` is that of a trap, or none, or a stop; a plan with a trap writes nothing. `flow`
 // has the new PC and SR, and the fault if there is one: then nothing of this is done.
-#[derive(Drop)]
+#[derive(Clone, Copy)]
 pub struct Plan {
     pub write: u32,
     pub at: u32,

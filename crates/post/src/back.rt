@@ -7,7 +7,7 @@ use record::limits::{BYTE_LIMIT, SLOT_LIMIT};
 use runs::Logged;
 
 // How many records are well shaped on the way, and where it ends: at place 0, or just after one that is not well shaped.
-#[derive(Drop)]
+#[derive(Clone, Copy)]
 pub struct Way {
     pub records: u64,
     pub end: usize,

@@ -5,7 +5,7 @@ use console::{byte, counted, decimal, place, slots, text};
 use forms::Form;
 
 // A change of a log's entry: the slot or the address, and what it held.
-#[derive(Drop)]
+#[derive(Clone, Copy)]
 struct Change {
     place: usize,
     old: u32,

@@ -4,7 +4,7 @@
 use forms::Form;
 
 // A conversion of a file of this form into the other; the records of a file of this form told; or the words ask nothing that there is.
-#[derive(Drop)]
+#[derive(Clone, Copy)]
 pub enum Asked {
     Convert(Form),
     Show(Form),

@@ -13,7 +13,7 @@ use limits::SLOT_LIMIT;
 use numbers::{put_byte, put_number, put_place, put_small};
 
 // The place after what was written, and how many changes that was.
-#[derive(Drop)]
+#[derive(Clone, Copy)]
 pub struct Put {
     pub at: usize,
     pub count: u32,

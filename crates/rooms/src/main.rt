@@ -44,14 +44,14 @@ const OTHER_DROPPED: u32 = 5;
 
 const OTHER_JOURNAL: u32 = 6;
 
-#[derive(Drop)]
+#[derive(Clone, Copy)]
 struct Progress {
     reading: Reading,
     tally: Tally,
 }
 
 // The refusal's number or 0, the mark, the bytes moved and the records dropped.
-#[derive(Drop)]
+#[derive(Clone, Copy)]
 struct Answer {
     number: u64,
     mark: u64,

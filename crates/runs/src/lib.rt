@@ -5,14 +5,14 @@ pub mod put;
 pub mod read;
 
 // Where a run starts in the journal, the entry of its first byte and its first address, or that it is none.
-#[derive(Drop)]
+#[derive(Clone, Copy)]
 pub enum OneRun {
     At(usize, usize, usize),
     Broken,
 }
 
 // Where runs start in the journal and the entry of their first byte, or that they are none.
-#[derive(Drop)]
+#[derive(Clone, Copy)]
 pub enum AllRuns {
     From(usize, usize),
     Broken,
@@ -20,7 +20,7 @@ pub enum AllRuns {
 
 // A record that was read into two logs: the count of its slots, its bytes' first entry and the one after the last, and where it starts; or
 // none.
-#[derive(Drop)]
+#[derive(Clone, Copy)]
 pub enum Logged {
     Record(usize, usize, usize, usize),
     Nothing,

@@ -6,7 +6,7 @@ ghost use Rattle.bits.specs.Bits.{iter};
 ghost use Rattle.shift.specs.Shift.{by_kind, one_left, one_right, one_place, shift};
 
 // A number on its way: X, the bit that went out last, and whether the top bit changed at any point.
-#[derive(Drop)]
+#[derive(Clone, Copy)]
 struct Moving {
     v: u32,
     x: bool,

@@ -6,7 +6,7 @@ ghost use Rattle.std.specs.Prelude.{◌≤◌, length};
 // bytes for two memories of 16 MiB and all else, with room to spare
 const LARGE: u64 = 67108864;
 
-#[derive(Drop)]
+#[derive(Clone, Copy)]
 struct Limit {
     value: u64,
     state: u32,

@@ -12,7 +12,7 @@ use exception::Ended;
 use plan::Plan;
 
 // An operation word, what is to be done for it, and the clocks of its instruction if it takes no exception.
-#[derive(Drop)]
+#[derive(Clone, Copy)]
 pub struct Tried {
     pub op: u32,
     pub p: Plan,
@@ -20,7 +20,7 @@ pub struct Tried {
 }
 
 // How a step ended: the entries in the log, the event and the clocks.
-#[derive(Drop)]
+#[derive(Clone, Copy)]
 pub struct Taken {
     pub n: usize,
     pub event: u32,

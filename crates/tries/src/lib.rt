@@ -24,7 +24,7 @@ pub const REFUSED: u32 = 5;
 // A try's answer: why it ended, the refusal's number or 0, the vector that was taken first or 0, how many steps were accepted, the last
 // one too, and the mark: so many undos take it back. The answers are C's structs: new members go to the end.
 #[repr(C)]
-#[derive(Drop)]
+#[derive(Clone, Copy)]
 pub struct TryAnswer {
     pub end: u32,
     pub number: u32,
@@ -35,7 +35,7 @@ pub struct TryAnswer {
 
 // What taking back answers: the refusal's number or 0, how many steps were undone, the mark, and the window then.
 #[repr(C)]
-#[derive(Drop)]
+#[derive(Clone, Copy)]
 pub struct BackAnswer {
     pub number: u32,
     pub undone: u32,

@@ -46,7 +46,7 @@ pub fn tell_slots(before: &[u32; SLOTS], after: &[u32; SLOTS]) {
 // ---- memory
 
 // The window and the exception's frame.
-#[derive(Drop)]
+#[derive(Clone, Copy)]
 pub struct Bounds {
     pub win: Window,
     pub frame: Frame,

@@ -7,7 +7,7 @@ use console::{address, counted, decimal, hex, text};
 use tries::TryAnswer;
 
 // Where an exception's frame lies, and its length: 0 where there is none.
-#[derive(Drop)]
+#[derive(Clone, Copy)]
 pub struct Frame {
     pub at: u32,
     pub length: u32,

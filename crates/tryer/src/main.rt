@@ -27,7 +27,7 @@ use words::{MEMORY, Words};
 const JOURNAL: usize = 4194304;
 
 // What is tried: the window, that before it, how many steps.
-#[derive(Drop)]
+#[derive(Clone, Copy)]
 struct Asked {
     win: Window,
     old: Window,

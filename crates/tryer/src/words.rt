@@ -19,7 +19,7 @@ pub const NO_NUMBER: u64 = 4294967296;
 pub const OF_RESET: u64 = 4294967297;
 
 // What the words say, with NO_NUMBER for a word that is none.
-#[derive(Drop)]
+#[derive(Clone, Copy)]
 pub struct Words {
     pub lo: u64,
     pub hi: u64,

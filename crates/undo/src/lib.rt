@@ -11,21 +11,21 @@ use numbers::{Reading, read_number};
 use record::limits::{BYTE_LIMIT, SLOT_LIMIT, valid_value};
 
 // Where a run of changes starts, or that it is none.
-#[derive(Drop)]
+#[derive(Clone, Copy)]
 pub enum Run {
     From(usize),
     Broken,
 }
 
 // The counts of slots and bytes of a record, and where it starts.
-#[derive(Drop)]
+#[derive(Clone, Copy)]
 pub enum Last {
     Found(usize, usize, usize),
     Nothing,
 }
 
 // The new mark, or a refusal.
-#[derive(Drop)]
+#[derive(Clone, Copy)]
 pub enum Answer {
     Done(usize),
     Refused,

@@ -8,7 +8,7 @@ use cases::text::field;
 use compare::verdicts;
 use libc::STDOUT_FILENO;
 
-#[derive(Drop)]
+#[derive(Clone, Copy)]
 struct Progress {
     reading: Reading,
     tally: Tally,
