@@ -14,7 +14,7 @@ use mathlib.Core.List.{List, [], ◌∷◌}
 use native.Mathlib.Omega.{arith}
 use lib.ListN.{length}
 use lib.Dec.{eqb}
-use borrow.Author.Tests.{eqb-true, eqb-false, eq-eqb, ne_eqb, not_true}
+use borrow.Author.Tests.{eqb-true, eqb-false, eq-eqb, ne_eqb, not-true}
 use Rattle.bits.specs.Bits.{pick}
 use Rattle.bits.proofs.BitsLaws.{and_left, and_right}
 use Rattle.bus.specs.Bus.{Board}
@@ -48,7 +48,7 @@ without_nine (l ∷ ls) = not (eqb l.number no_block) && without_nine ls
 given_not_nine : (t : List Line) (n : ℕ) → without_nine t ≡ true → Given t n → n ≡ no_block → ⊥
 given_not_nine t n h zero_at_end q = omega arith
 given_not_nine t n h (this {l = l} {ls = ls} a e) q =
-    eqb-false l.number no_block (not_true (eqb l.number no_block) (and_left (not (eqb l.number no_block)) (without_nine ls) h)) (sym e ∙ q)
+    eqb-false l.number no_block (not-true (eqb l.number no_block) (and_left (not (eqb l.number no_block)) (without_nine ls) h)) (sym e ∙ q)
 given_not_nine t n h (later {l = l} {ls = ls} a e) q =
     given_not_nine ls n (and_right (not (eqb l.number no_block)) (without_nine ls) h) e q
 

@@ -15,7 +15,7 @@ use mathlib.Core.List.{List, [], ◌∷◌}
 use native.Mathlib.Omega.{arith}
 use lib.ListN.{length}
 use lib.Dec.{ltb, leb, eqb}
-use borrow.Author.Tests.{ltb-true, ltb-false, leb-false, eqb-true, eqb-false, lt-ltb, le-ltb, eq-eqb, ne_eqb, not_true, not-false}
+use borrow.Author.Tests.{ltb-true, ltb-false, leb-false, eqb-true, eqb-false, lt-ltb, le-ltb, eq-eqb, ne_eqb, not-true, not-false}
 use Rattle.codes.specs.Codes.{RomStart, MostRom}
 use Rattle.bits.specs.Bits.{pick}
 use Rattle.bits.proofs.BitsLaws.{pick_cases, and_left, and_right}
@@ -147,19 +147,19 @@ no_bad_window board m e (past_end h) = let f = (window_inv board m e).1 in omega
 
 module _ {k : ℕ} {ls : List Line} (rest : Given ls k) where
   pub memory_given : (m : List ℕ) → Given (memory_line m ∷ ls) (pick (not (memory_fits m)) 1 k)
-  memory_given m = given_pick (not (memory_fits m)) 1 (BadMemory m) (λ e. bad_memory_when m (not_true (memory_fits m) e)) (λ e. no_bad_memory m (not-false (memory_fits m) e)) rest
+  memory_given m = given_pick (not (memory_fits m)) 1 (BadMemory m) (λ e. bad_memory_when m (not-true (memory_fits m) e)) (λ e. no_bad_memory m (not-false (memory_fits m) e)) rest
 
   pub rom_given : (rom m : List ℕ) → Given (rom_line rom m ∷ ls) (pick (not (rom_fits rom m)) 12 k)
   rom_given rom m =
-      given_pick (not (rom_fits rom m)) 12 (BadRom rom m) (λ e. bad_rom_when rom m (not_true (rom_fits rom m) e))
+      given_pick (not (rom_fits rom m)) 12 (BadRom rom m) (λ e. bad_rom_when rom m (not-true (rom_fits rom m) e))
       (λ e. no_bad_rom rom m (not-false (rom_fits rom m) e)) rest
 
   state_given : (s : List ℕ) → Given (state_line s ∷ ls) (pick (not (state_fits s)) 2 k)
-  state_given s = given_pick (not (state_fits s)) 2 (BadState s) (λ e. bad_state_when s (not_true (state_fits s) e)) (λ e. no_bad_state s (not-false (state_fits s) e)) rest
+  state_given s = given_pick (not (state_fits s)) 2 (BadState s) (λ e. bad_state_when s (not-true (state_fits s) e)) (λ e. no_bad_state s (not-false (state_fits s) e)) rest
 
   window_given : (board : Board) (m : List ℕ) → Given (window_line board m ∷ ls) (pick (not (window_fits board m)) 10 k)
   window_given board m =
-      given_pick (not (window_fits board m)) 10 (BadWindow board m) (λ e. bad_window_when board m (not_true (window_fits board m) e))
+      given_pick (not (window_fits board m)) 10 (BadWindow board m) (λ e. bad_window_when board m (not-true (window_fits board m) e))
       (λ e. no_bad_window board m (not-false (window_fits board m) e)) rest
 
   pub below_given : (n a b : ℕ) → Given (record { number = n; applies = a < b } ∷ ls) (pick (ltb a b) n k)

@@ -8,7 +8,7 @@ use mathlib.Core.Bool.{Bool, true, false, not}
 use mathlib.Core.List.{List}
 use lib.ListN.{length, get_or}
 use lib.Dec.{eqb}
-use borrow.Author.Tests.{eqb-true, eqb-false, ltb-false, lt-ltb, le-ltb, ne_eqb, not_true, not-false}
+use borrow.Author.Tests.{eqb-true, eqb-false, ltb-false, lt-ltb, le-ltb, ne_eqb, not-true, not-false}
 use Rattle.bits.specs.Bits.{pick}
 use Rattle.bus.specs.Bus.{Board}
 use Rattle.record.specs.Limits.{longest_record}
@@ -113,7 +113,7 @@ module _ (board : Board) (s m : List ℕ) (level vector : ℕ) (j : List ℕ) (m
       pub step_torn_promised : not (eqb a.number 0) ≡ true
           → StepPromise Dropping board s m level vector j mark s m j₁ (record { number = a.number; event = 0; mark = mark; clocks = 0; moved = 0; dropped = 0 })
       step_torn_promised t =
-          let y = eqb-false a.number 0 (not_true (eqb a.number 0) t) in
+          let y = eqb-false a.number 0 (not-true (eqb a.number 0) t) in
           refused_with a.number j₁ number_is y (room.journal ∙ room_as_it_was (length m) j mark (λ q. y (ap (λ (r : Room). r.number) room.answer ∙ q)))
 
       module _ (t : not (eqb a.number 0) ≡ false) where

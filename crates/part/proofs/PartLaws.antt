@@ -8,7 +8,7 @@ use mathlib.Core.Bool.{Bool, true, false, ◌&&◌, ◌||◌, not}
 use mathlib.Core.List.{List, []}
 use lib.ListN.{length, take, drop}
 use lib.Dec.{leb, eqb}
-use borrow.Author.Tests.{leb-true, leb-false, le-leb, eqb-true, eqb-false, eq-eqb, not_true, not-false}
+use borrow.Author.Tests.{leb-true, leb-false, le-leb, eqb-true, eqb-false, eq-eqb, not-true, not-false}
 use denote.Ref.{Bor}
 use Rattle.codes.specs.Codes.{RomStart}
 use Rattle.bits.specs.Bits.{pick}
@@ -42,7 +42,7 @@ module _ (m rom r : Bor (List ℕ)) (a l x : ℕ) (xe : x ≡ reset_number m.now
 
   pub part_refused : not (eqb x 0) ≡ true → PartOf m 0 0 r → PartPromise m rom a l x r
   unfolding where_is
-  part_refused t h = placed x (refused x) refl (let g = not_true (eqb x 0) t in cc) h
+  part_refused t h = placed x (refused x) refl (let g = not-true (eqb x 0) t in cc) h
 
   module _ (t : not (eqb x 0) ≡ false) (i : Bool) (ie : i ≡ lies (length m.now) a l) where
     pub part_in_memory : i ≡ true → PartOf m a l r → PartPromise m rom a l 0 r
@@ -122,4 +122,4 @@ module _ (m rom : List ℕ) (a l : ℕ) where
   pub part_verdict : Verdict (part_table m rom a l) (number_of (where_is m rom a l))
   part_verdict =
       verdict (part_table m rom a l) (number_of (where_is m rom a l)) (omega arith)
-      (rw number_is (memory_given (rom_given (given_pick (not fits) 13 _ (λ e. neither (not_true fits e)) (λ e. one_of_them (not-false fits e)) zero_at_end) rom m) m))
+      (rw number_is (memory_given (rom_given (given_pick (not fits) 13 _ (λ e. neither (not-true fits e)) (λ e. one_of_them (not-false fits e)) zero_at_end) rom m) m))

@@ -6,7 +6,7 @@ use mathlib.Core.Path.{◌≡◌, sym, ap}
 use mathlib.Core.Bool.{Bool, true, false, ◌&&◌, ◌||◌, not}
 use mathlib.Core.List.{List}
 use lib.Dec.{ltb, eqb}
-use borrow.Author.Tests.{eqb-true, not_true}
+use borrow.Author.Tests.{eqb-true, not-true}
 use Rattle.codes.specs.Codes.{Mask, TopLevel}
 use Rattle.bits.specs.Bits.{bit}
 use Rattle.bits.proofs.BitsLaws.{and_left, and_right}
@@ -148,7 +148,7 @@ module _ (s m r : List ℕ) (p : Plan) (trace : Bool) (s₁ : List ℕ) (d : s�
       unfolding carry_out
       quiet =
           let none = trap_of_nothing p (eqb-true p.vector 0 (and_left (eqb p.vector 0) (not trace) h)) in
-          let untraced = not_true trace (and_right (eqb p.vector 0) (not trace) h) in
+          let untraced = not-true trace (and_right (eqb p.vector 0) (not trace) h) in
           let b : still s m ≡ both s m (trap_of p) trace = rw (none, untraced) (both_quiet s m) in cc
 
       pub carry_out_quiet_slots : s₁ ≡ (carry_out s m r p trace).s

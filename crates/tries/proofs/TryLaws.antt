@@ -8,7 +8,7 @@ use mathlib.Core.Path.{◌≡◌, sym, ap, ◌∙◌}
 use mathlib.Core.Bool.{Bool, true, false, not}
 use mathlib.Core.List.{List}
 use lib.Dec.{eqb}
-use borrow.Author.Tests.{eqb-true, eqb-false, not_true, not-false}
+use borrow.Author.Tests.{eqb-true, eqb-false, not-true, not-false}
 use Rattle.bus.specs.declared.Window.{Window}
 use Rattle.bus.specs.Bus.{Board}
 use Rattle.bank.specs.Bank.{sr_of, supervisor}
@@ -26,7 +26,7 @@ use Rattle.tries.specs.Promises.{TryPromise, BackPromise}
 -- ---- the steps of a try
 -- an event that is not none is above 0
 pub loud_event : (e : ℕ) → not (eqb e 0) ≡ true → 1 ≤ e
-loud_event e t = let f = eqb-false e 0 (not_true (eqb e 0) t) in omega arith
+loud_event e t = let f = eqb-false e 0 (not-true (eqb e 0) t) in omega arith
 
 -- at the loop's head, n steps done: what is left gives the whole
 pub record Trying (board : Board) (b : ℕ) (s₀ m₀ j₀ : List ℕ) (mark₀ : ℕ) (s m j : List ℕ) (mark n : ℕ) : Type 0 where
@@ -58,12 +58,12 @@ module _ {board : Board} {b : ℕ} {s₀ m₀ j₀ : List ℕ} {mark₀ : ℕ} {
     zero_when t = ap (λ (x : ℕ). eqb x 0) (sym number_is) ∙ not-false (eqb a.number 0) t
 
     loud_when : not (eqb a.event 0) ≡ true → eqb (step_call Keeping board s m 0 0 j mark).a.event 0 ≡ false
-    loud_when t = ap (λ (x : ℕ). eqb x 0) (sym event_is) ∙ not_true (eqb a.event 0) t
+    loud_when t = ap (λ (x : ℕ). eqb x 0) (sym event_is) ∙ not-true (eqb a.event 0) t
 
     pub tries_refused : not (eqb a.number 0) ≡ true → ended 5 a.number 0 n s₁ m₁ j₁ mark ≡ trying board b 0 s₀ m₀ j₀ mark₀
     unfolding trying
     tries_refused t =
-        let f = not_true (eqb a.number 0) t in
+        let f = not-true (eqb a.number 0) t in
         let r = step_refused Keeping board s m 0 j mark 0 (λ z. eqb-false a.number 0 f (number_is ∙ z)) in
         let g : eqb (step_call Keeping board s m 0 0 j mark).a.number 0 ≡ false = ap (λ (x : ℕ). eqb x 0) (sym number_is) ∙ f in
         let e : ended 5 (step_call Keeping board s m 0 0 j mark).a.number 0 n s m j mark ≡ trying board b 0 s₀ m₀ j₀ mark₀ = rw g at now_left in
@@ -109,7 +109,7 @@ module _ (board : Board) (s m : List ℕ) (count : ℕ) (j : List ℕ) (mark num
   pub try_refuses : not (eqb number 0) ≡ true → TryPromise board s m count j mark s m j (record { end = 5; number = number; vector = 0; steps = 0; mark = mark })
   unfolding try_call
   try_refuses t =
-      let f : eqb (try_number board s m count j mark) 0 ≡ false = ap (λ (x : ℕ). eqb x 0) (sym e) ∙ not_true (eqb number 0) t in
+      let f : eqb (try_number board s m count j mark) 0 ≡ false = ap (λ (x : ℕ). eqb x 0) (sym e) ∙ not-true (eqb number 0) t in
       record { slots = rw f; memory = rw f; journal = rw f; answer = rw f (cc e) }
 
   module _ (t : not (eqb number 0) ≡ false) (b : Bool) (d : b ≡ supervisor (sr_of s)) where
@@ -168,7 +168,7 @@ module _ {board : Board} {old : Window} {b : ℕ} {s₀ m₀ j : List ℕ} {mark
         → BackPromise board old s₀ m₀ j mark₀ b s₁ m₁ (record { number = a.number; undone = n; mark = mark; lo = board.window.lo; hi = board.window.hi })
     unfolding backing
     backs_refused t =
-        let f = not_true (eqb a.number 0) t in
+        let f = not-true (eqb a.number 0) t in
         let r = undo_refused board s m j mark (λ z. eqb-false a.number 0 f (undo_number_is ∙ z)) in
         let g : eqb (undo_call board s m j mark).a.number 0 ≡ false = ap (λ (x : ℕ). eqb x 0) (sym undo_number_is) ∙ f in
         let e = rw g at left_now in

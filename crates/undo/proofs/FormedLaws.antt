@@ -9,7 +9,7 @@ use native.Mathlib.Omega.{arith}
 use lib.ListN.{length, get_or, take, length-append, length-reverse}
 use lib.Seq.{length-take-le, take_all, take_at, take-take}
 use lib.Dec.{eqb, leb}
-use borrow.Author.Tests.{lt-ltb, ltb-true, ne_eqb, eqb-false, leb-true, leb-false, not_true}
+use borrow.Author.Tests.{lt-ltb, ltb-true, ne_eqb, eqb-false, leb-true, leb-false, not-true}
 use Rattle.bits.proofs.BitsLaws.{and_left, and_right}
 use Rattle.numbers.specs.Number.{back}
 use Rattle.numbers.proofs.NumberLaws.{Bytes}
@@ -78,7 +78,7 @@ every_differs m [] e = tt
 every_differs m (c ∷ cs) e =
     let now = get_or m c.place 0 in
     let this = not (eqb c.old now) in
-    (eqb-false c.old now (not_true (eqb c.old now) (and_left this (differs m cs) e)), every_differs m cs (and_right this (differs m cs) e))
+    (eqb-false c.old now (not-true (eqb c.old now) (and_left this (differs m cs) e)), every_differs m cs (and_right this (differs m cs) e))
 
 differs_when : (m : List ℕ) (cs : List Change) → Every (Unheld m) cs → differs m cs ≡ true
 differs_when m [] h = refl

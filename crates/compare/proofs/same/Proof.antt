@@ -7,27 +7,27 @@ use Rattle.compare.proofs.SameLaws.{SameTo, same_start, same_next, same_end, sam
 use Rattle.compare.proofs.same.Statement.{statement}
 use Rattle.compare.proofs.same.Tie as tie
 
-abbrev invariant_loop : tie.invariant_loop
+abbrev invariant_loop : tie.invariant-loop-i
 invariant_loop a b d₀ i₀ i-end d i = (i ≤ length a) × SameTo i d a b
 
-abbrev decreases_loop : tie.decreases_loop
+abbrev decreases_loop : tie.decreases-loop-i
 decreases_loop a b d₀ i₀ i-end d i = length a - i
 
-returns : tie.Need-returns invariant_loop decreases_loop
+returns : tie.Need-returns-then-a-b invariant_loop decreases_loop
 returns c = let a = c.before.args in same_of_lengths a.a.now a.b.now (omega arith)
 
-loop_holds : tie.Need-loop-init invariant_loop decreases_loop
+loop_holds : tie.Need-loop-i-init invariant_loop decreases_loop
 loop_holds c = let a = c.before.args in (omega arith, same_start a.a.now a.b.now)
 
-loop_again : tie.Need-loop-preserved invariant_loop decreases_loop
+loop_again : tie.Need-loop-i-preserved invariant_loop decreases_loop
 loop_again c =
-    let q = c.before.before.before.loop in
+    let q = c.before.before.before.loop-i in
     let a = c.before.before.before.before.before.args in
     (omega arith, same_next a.a.now a.b.now q.i q.d (omega arith) (omega arith) q.invariant.1)
 
-returns_2 : tie.Need-returns-2 invariant_loop decreases_loop
+returns_2 : tie.Need-returns invariant_loop decreases_loop
 returns_2 c =
-    let q = c.before.loop in
+    let q = c.before.loop-i in
     let a = c.before.before.before.args in
     same_end a.a.now a.b.now q.i q.d (omega arith) (omega arith) q.invariant.1
 

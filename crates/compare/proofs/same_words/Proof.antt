@@ -7,27 +7,27 @@ use Rattle.compare.proofs.SameLaws.{SameTo, same_start, same_next, same_end, sam
 use Rattle.compare.proofs.same_words.Statement.{statement}
 use Rattle.compare.proofs.same_words.Tie as tie
 
-abbrev invariant_loop : tie.invariant_loop
+abbrev invariant_loop : tie.invariant-loop-k
 invariant_loop v w d₀ k₀ k-end d k = (k ≤ length v) × SameTo k d v w
 
-abbrev decreases_loop : tie.decreases_loop
+abbrev decreases_loop : tie.decreases-loop-k
 decreases_loop v w d₀ k₀ k-end d k = length v - k
 
-returns : tie.Need-returns invariant_loop decreases_loop
+returns : tie.Need-returns-then-v-w invariant_loop decreases_loop
 returns c = let a = c.before.args in same_of_lengths a.v.now a.w.now (omega arith)
 
-loop_holds : tie.Need-loop-init invariant_loop decreases_loop
+loop_holds : tie.Need-loop-k-init invariant_loop decreases_loop
 loop_holds c = let a = c.before.args in (omega arith, same_start a.v.now a.w.now)
 
-loop_again : tie.Need-loop-preserved invariant_loop decreases_loop
+loop_again : tie.Need-loop-k-preserved invariant_loop decreases_loop
 loop_again c =
-    let q = c.before.before.before.loop in
+    let q = c.before.before.before.loop-k in
     let a = c.before.before.before.before.before.args in
     (omega arith, same_next a.v.now a.w.now q.k q.d (omega arith) (omega arith) q.invariant.1)
 
-returns_2 : tie.Need-returns-2 invariant_loop decreases_loop
+returns_2 : tie.Need-returns invariant_loop decreases_loop
 returns_2 c =
-    let q = c.before.loop in
+    let q = c.before.loop-k in
     let a = c.before.before.before.args in
     same_end a.v.now a.w.now q.k q.d (omega arith) (omega arith) q.invariant.1
 

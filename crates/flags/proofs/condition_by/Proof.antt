@@ -9,4 +9,4 @@ condition_by_spec =
     tie.close (tie.spec
     (λ c. search case_at) (λ c. search case_at) (λ c. search case_at) (λ c. search case_at) (λ c. search case_at) (λ c. search case_at)
     (λ c. search case_at) (λ c. search case_at) (λ c. search case_at) (λ c. search case_at) (λ c. search case_at) (λ c. search case_at)
-    (λ c. search case_at) (λ c. search case_at) (λ c. search case_at) (λ c. search (case_past, c.match.rest)))
+    (λ c. search case_at) (λ c. search case_at) (λ c. search case_at) (λ c. search (case_past, c.in_default.in_default-own.rest)))

@@ -2,7 +2,7 @@
 use Prim.Native.Nat.{◌-◌}
 use mathlib.Core.Path.{refl}
 use mathlib.Core.Bool.{true, false}
-use borrow.Author.Tests.{not_true, not-false}
+use borrow.Author.Tests.{not-true, not-false}
 use Rattle.forms.proofs.ConvertLaws.{less_not, less_short, less_fits}
 use Rattle.forms.proofs.less.Statement.{statement}
 use Rattle.forms.proofs.less.Tie as tie
@@ -10,7 +10,7 @@ use Rattle.forms.proofs.less.Tie as tie
 returns : tie.Need-returns
 returns c =
     let s = c.before.before in
-    λ space taken w. less_not s.args.s s.args.n space taken (not_true s.args.s.fits c.if1.true) w
+    λ space taken w. less_not s.args.s s.args.n space taken (not-true s.args.s.fits c.if1.true) w
 
 returns_2 : tie.Need-returns-2
 returns_2 c =

@@ -26,71 +26,71 @@ module _ (t : ℕ) where
   abbrev below : lts.Claims
   below = (and 1 kinds.ps (falls 1 kinds.ps ◌<◌ μ_read_groups t) reads.Pre, reads.Post, join-group-reads.Asked, join-group-reads.Learnt)
 
-  returns : lts.Need-returns below here reads.Post
+  returns : lts.Need-returns-then-end-eq0 below here reads.Post
   unfolding back
-  returns c = rw c.if1.true
+  returns c = rw c.if-end-eq0.true
 
-  returns_2 : lts.Need-returns-2 below here reads.Post
+  returns_2 : lts.Need-returns-then-b-lt16 below here reads.Post
   returns_2 c =
       let s = c.before.before.before.before in
       let k = s.args.k in
-      let at-e = back_of_pred _ _ c.before.before.if1.false s.requires.1.0 in
-      (ap (read_groups k) at-e ∙ read_16 k _ _ c.if2.true, omega arith, omega (arith, top_16 k))
+      let at-e = back_of_pred _ _ c.before.before.if-end-eq0.false s.requires.1.0 in
+      (ap (read_groups k) at-e ∙ read_16 k _ _ c.if-b-lt16.true, omega arith, omega (arith, top_16 k))
 
-  returns_3 : lts.Need-returns-3 below here reads.Post
+  returns_3 : lts.Need-returns-then-k-eq0 below here reads.Post
   returns_3 c =
       let s = c.before.before.before.before.before in
       let k = s.args.k in
-      let at-e = back_of_pred _ _ c.before.before.before.if1.false s.requires.1.0 in
-      ap (read_groups k) at-e ∙ read_over k _ _ c.if3.true c.before.if2.false
+      let at-e = back_of_pred _ _ c.before.before.before.if-end-eq0.false s.requires.1.0 in
+      ap (read_groups k) at-e ∙ read_over k _ _ c.if-k-eq0.true c.before.if-b-lt16.false
 
-  returns_4 : lts.Need-returns-4 below here reads.Post
+  returns_4 : lts.Need-returns-then-b-lt128 below here reads.Post
   returns_4 c =
       let s = c.before.before.before.before.before.before in
       let k = s.args.k in
-      let at-e = back_of_pred _ _ c.before.before.before.before.if1.false s.requires.1.0 in
-      let more = c.before.if3.false in
-      (ap (read_groups k) at-e ∙ read_128 k _ _ more c.if4.true, omega arith, omega (arith, top_128 k more, top_16 (k - 1)))
+      let at-e = back_of_pred _ _ c.before.before.before.before.if-end-eq0.false s.requires.1.0 in
+      let more = c.before.if-k-eq0.false in
+      (ap (read_groups k) at-e ∙ read_128 k _ _ more c.if-b-lt128.true, omega arith, omega (arith, top_128 k more, top_16 (k - 1)))
 
   -- where the last byte has bit 7 set: the function's entry, the first test, and the byte
-  module _ (d : lts.Else4 below here reads.Post) where
+  module _ (d : lts.Else-b-lt128 below here reads.Post) where
     abbrev s : lts.Start below here reads.Post
     s = d.before.before.before.before.before.before
 
     abbrev some : s.args.end ≡ 0 → ⊥
-    some = d.before.before.before.before.if1.left
+    some = d.before.before.before.before.if-end-eq0.left
 
     byte : get_or s.args.journal.now (s.args.end - 1) 0 < 256
-    byte = (d.before.before.before.shared-slice-known2.given (s.args.end - 1)).fits
+    byte = (d.before.before.before.shared_slice_known-2-1.given (s.args.end - 1)).fits
 
-  returns_5 : lts.Need-returns-5 below here reads.Post
+  returns_5 : lts.Need-returns-in_default below here reads.Post
   returns_5 c =
       let d = c.before.before.before in
       let g = c.before.before.read_groups in
-      read_bad _ _ _ (some d) (s d).requires.1.0 d.before.if3.false d.if4.false _ g.ensures c.enum_told.given.1
+      read_bad _ _ _ (some d) (s d).requires.1.0 d.before.if-k-eq0.false d.if-b-lt128.false _ g.ensures c.in_default.is
 
-  returns_6 : lts.Need-returns-6 below here reads.Post
+  returns_6 : lts.Need-returns-then-hi-eq0 below here reads.Post
   returns_6 c =
       let d = c.before.before.before.before.before in
       let g = c.before.before.before.before.read_groups in
-      let h = c.before.before.hi.given in
-      read_zero _ _ _ (some d) (s d).requires.1.0 d.before.if3.false d.if4.false _ g.ensures _ _ h.1 c.if5.true
+      let h = c.before.before.hi-1.given in
+      read_zero _ _ _ (some d) (s d).requires.1.0 d.before.if-k-eq0.false d.if-b-lt128.false _ g.ensures _ _ h.1 c.if-hi-eq0.true
 
-  join_group_requires : lts.Need-join-group-requires below here reads.Post
+  join_group_requires : lts.Need-join_group-requires below here reads.Post
   join_group_requires c κs =
       let d = c.before.before.before.before.before in
       let g = c.before.before.before.before.read_groups in
-      let h = c.before.before.hi.given in
-      let less = read_bound _ _ (s d).args.k (some d) (s d).requires.1.0 d.before.if3.false d.if4.false _ g.ensures _ _ h.1 (byte d) in
-      (omega (arith, less, top_32 (s d).args.k (s d).requires.1.1), d.if4.false)
+      let h = c.before.before.hi-1.given in
+      let less = read_bound _ _ (s d).args.k (some d) (s d).requires.1.0 d.before.if-k-eq0.false d.if-b-lt128.false _ g.ensures _ _ h.1 (byte d) in
+      (omega (arith, less, top_32 (s d).args.k (s d).requires.1.1), d.if-b-lt128.false)
 
-  returns_7 : lts.Need-returns-7 below here reads.Post
+  returns_7 : lts.Need-returns below here reads.Post
   returns_7 c =
       let d = c.before.before.before.before.before.before in
       let g = c.before.before.before.before.before.read_groups in
-      let h = c.before.before.before.hi.given in
-      read_more _ _ _ (some d) (s d).requires.1.0 d.before.if3.false d.if4.false _ g.ensures _ _ h.1
-      c.before.if5.false (byte d) _ c.join-group.ensures
+      let h = c.before.before.before.hi-1.given in
+      read_more _ _ _ (some d) (s d).requires.1.0 d.before.if-k-eq0.false d.if-b-lt128.false _ g.ensures _ _ h.1
+      c.before.if-hi-eq0.false (byte d) _ c.join_group.ensures
 
 pub +read_groups_spec : {M : Type 1} → statement M
 +read_groups_spec =

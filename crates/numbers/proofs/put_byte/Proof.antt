@@ -9,8 +9,8 @@ use Rattle.numbers.proofs.PutLaws.{number_bytes_byte, put_each}
 use Rattle.numbers.proofs.put_byte.Statement.{statement}
 use Rattle.numbers.proofs.put_byte.Tie as tie
 
-two : (c : tie.Else1) → let v = c.before.before.args.v in number_bytes v ≡ 1 ∷ v ∷ []
-two c = number_bytes_byte c.before.before.args.v c.if1.false c.before.before.requires.0
+two : (c : tie.Else-v-lt128) → let v = c.before.before.args.v in number_bytes v ≡ 1 ∷ v ∷ []
+two c = number_bytes_byte c.before.before.args.v c.if-v-lt128.false c.before.before.requires.0
 
 pub put_byte_spec : {M : Type 1} → statement M
 put_byte_spec =

@@ -23,14 +23,14 @@ rest_four v = (v / 16384 % 128 + 128) ∷ rest_three v
 abbrev rest_five : ℕ → List ℕ
 rest_five v = (v / 2097152 % 128 + 128) ∷ rest_four v
 
-two : (c : tie.Then2) → let v = c.before.before.before.args.v in number_bytes v ≡ v / 128 ∷ rest_two v
-two c = number_bytes_two c.before.before.before.args.v c.before.if1.false c.if2.true
+two : (c : tie.Then-v-lt16384) → let v = c.before.before.before.args.v in number_bytes v ≡ v / 128 ∷ rest_two v
+two c = number_bytes_two c.before.before.before.args.v c.before.if-v-lt128.false c.if-v-lt16384.true
 
-four : (c : tie.Then4) → let v = c.before.before.before.before.before.args.v in number_bytes v ≡ v / 2097152 ∷ rest_four v
-four c = number_bytes_four c.before.before.before.before.before.args.v c.before.if3.false c.if4.true
+four : (c : tie.Then-v-lt268435456) → let v = c.before.before.before.before.before.args.v in number_bytes v ≡ v / 2097152 ∷ rest_four v
+four c = number_bytes_four c.before.before.before.before.before.args.v c.before.if-v-lt2097152.false c.if-v-lt268435456.true
 
-five : (c : tie.Else4) → let v = c.before.before.before.before.before.args.v in number_bytes v ≡ v / 268435456 ∷ rest_five v
-five c = number_bytes_five c.before.before.before.before.before.args.v c.if4.false (omega arith)
+five : (c : tie.Else-v-lt268435456) → let v = c.before.before.before.before.before.args.v in number_bytes v ≡ v / 268435456 ∷ rest_five v
+five c = number_bytes_five c.before.before.before.before.before.args.v c.if-v-lt268435456.false (omega arith)
 
 pub put_number_spec : {M : Type 1} → statement M
 put_number_spec =

@@ -6,19 +6,19 @@ use borrow.Author.Rules.{rules}
 use Rattle.numbers.proofs.read_number.Statement.{statement}
 use Rattle.numbers.proofs.read_number.Tie as tie
 
-join_group_requires : tie.Need-join-group-requires
+join_group_requires : tie.Need-join_group-requires
 join_group_requires c κs =
     let k = c.before.before.before.before.before in
-    let byte = k.shared-slice-known2.given (k.before.before.before.args.end - 1) in
-    (omega (arith, byte.fits), c.before.before.before.before.if2.false)
+    let byte = k.shared_slice_known-2-1.given (k.before.before.before.args.end - 1) in
+    (omega (arith, byte.fits), c.before.before.before.before.if-b-lt128.false)
 
-returns_5 : tie.Need-returns-5
+returns_5 : tie.Need-returns-then-c-lt128
 returns_5 c =
     let k = c.before.before.before.before.before.before in
     let s = k.before.before.before in
-    let byte = k.shared-slice-known2.given (s.args.end - 1) in
-    number_two _ _ k.before.if1.false s.requires c.before.before.before.before.before.if2.false
-    c.before.before.before.before.if3.false c.before.before.if4.false c.before.if5.true byte.fits _ c.join-group.ensures
+    let byte = k.shared_slice_known-2-1.given (s.args.end - 1) in
+    number_two _ _ k.before.if-end-eq0.false s.requires c.before.before.before.before.before.if-b-lt128.false
+    c.before.before.before.before.if-e-eq0.false c.before.before.if-c-eq0.false c.before.if-c-lt128.true byte.fits _ c.join_group.ensures
 
 pub read_number_spec : {M : Type 1} → statement M
 read_number_spec =

@@ -4,10 +4,10 @@ use borrow.Author.Rules.{rules}
 use Rattle.stack_limit.proofs.find.Statement.{statement}
 use Rattle.stack_limit.proofs.find.Tie as tie
 
-abbrev invariant_loop : tie.invariant_loop
+abbrev invariant_loop : tie.invariant-loop-i
 invariant_loop text word i₀ i-end i = i ≤ length text
 
-abbrev decreases_loop : tie.decreases_loop
+abbrev decreases_loop : tie.decreases-loop-i
 decreases_loop text word i₀ i-end i = length text - i
 
 pub find_spec : {M : Type 1} → statement M

@@ -4,10 +4,10 @@ use borrow.Author.Rules.{rules}
 use Rattle.stack_limit.proofs.limit_in.Statement.{statement}
 use Rattle.stack_limit.proofs.limit_in.Tie as tie
 
-abbrev invariant_loop : tie.invariant_loop
+abbrev invariant_loop : tie.invariant-loop-i
 invariant_loop text word from l₀ i₀ i-end l i = i ≤ length text
 
-abbrev decreases_loop : tie.decreases_loop
+abbrev decreases_loop : tie.decreases-loop-i
 decreases_loop text word from l₀ i₀ i-end l i = length text - i
 
 pub limit_in_spec : {M : Type 1} → statement M

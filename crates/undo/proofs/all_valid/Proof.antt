@@ -2,7 +2,7 @@
 use Prim.Native.Nat.{◌-◌, ◌≤◌}
 use native.Mathlib.Omega.{arith}
 use mathlib.Core.Path.{◌≡◌, refl, sym, ◌∙◌}
-use borrow.Author.Tests.{not_true, not-false}
+use borrow.Author.Tests.{not-true, not-false}
 use Rattle.record.specs.Change.{between, changes}
 use Rattle.undo.specs.Undo.{all_valid, valid_for}
 use Rattle.undo.proofs.ReadLaws.{between_past}
@@ -28,7 +28,7 @@ returns c =
     let d = c.before.before.before in
     let s = d.before.before.before in
     let g = c.before.valid_for in
-    let bad = sym g.ensures ∙ not_true g.result c.if1.true in
+    let bad = sym g.ensures ∙ not-true g.result c.if1.true in
     sym (sym d.before.loop.invariant.1 ∙ valid_not _ _ _ d.loop-test.true s.requires (valid_for s.args.bytes) bad)
 
 loop_again : tie.Need-loop-preserved invariant_loop decreases_loop

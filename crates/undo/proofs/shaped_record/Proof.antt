@@ -3,7 +3,7 @@ use Prim.Native.Nat.{ℕ}
 use native.Mathlib.Omega.{arith}
 use mathlib.Core.Path.{sym, ◌∙◌}
 use mathlib.Core.List.{List}
-use borrow.Author.Tests.{not_true, not-false}
+use borrow.Author.Tests.{not-true, not-false}
 use Rattle.numbers.specs.Number.{back}
 use Rattle.undo.specs.Undo.{RecordIs, read_record}
 use Rattle.undo.specs.declared.Last.TheVariants.{Found}
@@ -52,7 +52,7 @@ returns_2 : tie.Need-returns-2
 returns_2 c =
     let d = c.before.before.before.before in
     let g = c.before.all_valid in
-    shaped_slots _ _ _ _ _ (there d).0 (sym g.ensures ∙ not_true g.result c.if1.true)
+    shaped_slots _ _ _ _ _ (there d).0 (sym g.ensures ∙ not-true g.result c.if1.true)
 
 all_valid_requires_2 : tie.Need-all-valid-requires-2
 all_valid_requires_2 c κs =
@@ -65,7 +65,7 @@ returns_3 c =
     let g = c.before.before.before.before.all_valid in
     let h = c.before.all-valid2 in
     let ok = not-false g.result c.before.before.before.if1.false in
-    shaped_bytes _ _ _ _ _ (there d).0 (sym g.ensures ∙ ok) (sym h.ensures ∙ not_true h.result c.if2.true)
+    shaped_bytes _ _ _ _ _ (there d).0 (sym g.ensures ∙ ok) (sym h.ensures ∙ not-true h.result c.if2.true)
 
 returns_4 : tie.Need-returns-4
 returns_4 c =

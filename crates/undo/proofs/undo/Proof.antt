@@ -4,7 +4,7 @@ use native.Mathlib.Omega.{arith}
 use mathlib.Core.Path.{◌≡◌, refl, sym, ◌∙◌, subst}
 use mathlib.Core.List.{List}
 use lib.ListN.{length}
-use borrow.Author.Tests.{not_true, not-false}
+use borrow.Author.Tests.{not-true, not-false}
 use Rattle.numbers.specs.Number.{back}
 use Rattle.record.specs.Limits.{slot_limit}
 use Rattle.record.specs.Change.{Ascending, changes}
@@ -71,7 +71,7 @@ returns_3 : tie.Need-returns-3
 returns_3 c =
     let d = c.before.before.before.before.before.before in
     let g = c.before.slots_differ in
-    undo_slots _ _ _ _ (inside d) _ _ _ (there d).0 (sym g.ensures ∙ not_true g.result c.if2.true)
+    undo_slots _ _ _ _ (inside d) _ _ _ (there d).0 (sym g.ensures ∙ not-true g.result c.if2.true)
 
 bytes_differ_requires : tie.Need-bytes-differ-requires
 bytes_differ_requires c κs = let d = c.before.before.before.before.before.before.before.before in (few_bytes d, (there d).5)
@@ -83,7 +83,7 @@ returns_4 c =
     let g = e.before.slots_differ in
     let h = c.before.bytes_differ in
     let other = sym g.ensures ∙ not-false g.result e.if2.false in
-    undo_bytes _ _ _ _ (inside d) _ _ _ (there d).0 other (sym h.ensures ∙ not_true h.result c.if3.true)
+    undo_bytes _ _ _ _ (inside d) _ _ _ (there d).0 other (sym h.ensures ∙ not-true h.result c.if3.true)
 
 restore_slots_requires : tie.Need-restore-slots-requires
 restore_slots_requires c κs =

@@ -10,13 +10,13 @@ pub of_step_spec : {M : Type 1} → statement M
 of_step_spec =
     tie.close
     (tie.spec
-    (λ c. disagrees (omega arith) (λ a. c.if1.true a.done))
+    (λ c. disagrees (omega arith) (λ a. c.if-number-ne0.true a.done))
     (λ c κs. search rules)
-    (λ c. disagrees (omega arith) (λ a. unequal c.before.same_slots.ensures c.if2.true a.slots))
+    (λ c. disagrees (omega arith) (λ a. unequal c.before.same_slots.ensures c.if-not-same_slots.true-raw a.slots))
     (λ c κs. search rules)
-    (λ c. disagrees (omega arith) (λ a. unequal c.before.same.ensures c.if3.true a.memory))
-    (λ c. disagrees (omega arith) (λ a. c.if4.true a.place))
+    (λ c. disagrees (omega arith) (λ a. unequal c.before.same.ensures c.if-not-same.true-raw a.memory))
+    (λ c. disagrees (omega arith) (λ a. c.if-mark-next.true a.place))
     (λ c κs. search rules)
-    (λ c. disagrees (omega arith) (λ a. unequal c.before.same2.ensures c.if5.true a.journal))
-    (λ c. disagrees (omega arith) (λ a. untrue c.if6.true a.in_time))
+    (λ c. disagrees (omega arith) (λ a. unequal c.before.same-2.ensures c.if-not-same-2.true-raw a.journal))
+    (λ c. disagrees (omega arith) (λ a. untrue c.if-not-timely.true-raw a.in_time))
     (λ c. agrees (search (equal, not-false))))

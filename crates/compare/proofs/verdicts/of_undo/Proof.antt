@@ -9,10 +9,10 @@ pub of_undo_spec : {M : Type 1} → statement M
 of_undo_spec =
     tie.close
     (tie.spec
-    (λ c. disagrees (omega arith) (λ a. c.if1.true a.answer))
+    (λ c. disagrees (omega arith) (λ a. c.if-number-due.true a.answer))
     (λ c κs. search rules)
-    (λ c. disagrees (omega arith) (λ a. unequal c.before.same_slots.ensures c.if2.true a.slots))
+    (λ c. disagrees (omega arith) (λ a. unequal c.before.same_slots.ensures c.if-not-same_slots.true-raw a.slots))
     (λ c κs. search rules)
-    (λ c. disagrees (omega arith) (λ a. unequal c.before.same.ensures c.if3.true a.memory))
-    (λ c. disagrees (omega arith) (λ a. c.if4.true a.place))
+    (λ c. disagrees (omega arith) (λ a. unequal c.before.same.ensures c.if-not-same.true-raw a.memory))
+    (λ c. disagrees (omega arith) (λ a. c.if-mark-last.true a.place))
     (λ c. agrees (search equal)))

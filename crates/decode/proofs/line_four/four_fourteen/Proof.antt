@@ -4,16 +4,16 @@ use borrow.Author.Rules.{rules}
 use Rattle.decode.proofs.line_four.four_fourteen.Statement.{statement}
 use Rattle.decode.proofs.line_four.four_fourteen.Tie as tie
 
-returns : tie.Need-returns
+returns : tie.Need-returns-then-jumps
 returns c = search four_fourteen_jumps
 
-returns_2 : tie.Need-returns-2
+returns_2 : tie.Need-returns-then-plain
 unfolding four_fourteen
-returns_2 c = rw (c.before.if1.false, c.if2.true)
+returns_2 c = rw (c.before.if-jumps.false-raw, c.if-plain.true-raw)
 
-returns_3 : tie.Need-returns-3
+returns_3 : tie.Need-returns
 unfolding four_fourteen
-returns_3 c = rw (c.before.before.if1.false, c.before.if2.false) c.four_e.ensures
+returns_3 c = rw (c.before.before.if-jumps.false-raw, c.before.if-plain.false-raw) c.four_e.ensures
 
 pub four_fourteen_spec : {M : Type 1} → statement M
 four_fourteen_spec =

@@ -3,31 +3,31 @@ use Rattle.decode.specs.Chain.{immediate_status}
 use Rattle.decode.proofs.lines.immediate_status.Statement.{statement}
 use Rattle.decode.proofs.lines.immediate_status.Tie as tie
 
-returns : tie.Need-returns
+returns : tie.Need-returns-in-0
 unfolding immediate_status
-returns c = rw c.match.keys1
+returns c = rw c.in-0.is
 
-returns_2 : tie.Need-returns-2
+returns_2 : tie.Need-returns-in-1
 unfolding immediate_status
-returns_2 c = rw c.match.keys2
+returns_2 c = rw c.in-1.is
 
-returns_3 : tie.Need-returns-3
+returns_3 : tie.Need-returns-in-8
 unfolding immediate_status
-returns_3 c = rw c.match.keys3
+returns_3 c = rw c.in-8.is
 
-returns_4 : tie.Need-returns-4
+returns_4 : tie.Need-returns-in-9
 unfolding immediate_status
-returns_4 c = rw c.match.keys4
+returns_4 c = rw c.in-9.is
 
-returns_5 : tie.Need-returns-5
+returns_5 : tie.Need-returns-in-40
 unfolding immediate_status
-returns_5 c = rw c.match.keys5
+returns_5 c = rw c.in-40.is
 
-returns_6 : tie.Need-returns-6
+returns_6 : tie.Need-returns-in-41
 unfolding immediate_status
-returns_6 c = rw c.match.keys6
+returns_6 c = rw c.in-41.is
 
-returns_7 : tie.Need-returns-7
+returns_7 : tie.Need-returns-in_default
 unfolding immediate_status
 returns_7 c = search immediate_status_rest
 

@@ -3,7 +3,7 @@ use Prim.Native.Nat.{ℕ, suc, ◌^◌, ◌≤◌, ◌<◌}
 use native.Mathlib.Omega.{arith}
 use mathlib.Core.Path.{◌≡◌, sym, ◌∙◌}
 use mathlib.Core.List.{List, []}
-use borrow.Author.Tests.{not_true, not-false}
+use borrow.Author.Tests.{not-true, not-false}
 use Rattle.numbers.specs.Number.{back, read_number, got}
 use Rattle.record.specs.Limits.{slot_limit, byte_limit}
 use Rattle.record.specs.Change.{Ascending, between, changes}
@@ -165,7 +165,7 @@ returns_7 c =
     let x = c.before.all_valid in
     two_invalid (Z (s₁ b)) (nr b) (back j (p₁ b)) (g₁ b).0 (few d) (ns d) (back j (p₂ d)) (g₂ d).0 (few₂ e) (between (i₃ e) byte_limit (out₃ e))
     (back j (p₃ e)) (g₃ e).0
-    (changes (out₄ f) (ns d)) (back j (p₄ f)) (g₄ f).0 (sym x.ensures ∙ not_true x.result c.if3.true)
+    (changes (out₄ f) (ns d)) (back j (p₄ f)) (g₄ f).0 (sym x.ensures ∙ not-true x.result c.if3.true)
 
 returns_8 : tie.Need-returns-8
 returns_8 c =
