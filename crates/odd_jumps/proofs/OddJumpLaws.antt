@@ -35,9 +35,9 @@ use Rattle.odd_jumps.specs.OddJumps.{Nine, bcc, bra, bsr, dbcc, jmp, jsr, rts, r
 use Rattle.odd_jumps.specs.OddJumps.{blaming, Blamed, Halts, AsAsked}
 use Rattle.odd_jumps.proofs.FlowLaws.{next_word_keeps_sr, leads_keeps_sr, room_when_failed}
 
-not-true : (b : Bool) → not b ≡ true → b ≡ false
-not-true true e = sym e
-not-true false e = refl
+not_true : (b : Bool) → not b ≡ true → b ≡ false
+not_true true e = sym e
+not_true false e = refl
 
 not_ready : (b c : Bool) → c ≡ true → (b && not c) ≡ false
 not_ready true c e = cc
@@ -62,7 +62,7 @@ module _ (r : List ℕ) (v : View) (op : ℕ) (f : Flow) where
   planned dbcc h =
       let c = condition f.sr (condition_field op) in
       let e = eqb (counted r (ea_register op)) 0xFFFF in
-      planned_counted c e refl refl (not-true c (and_left (not c) (not e) h)) (not-true e (and_right (not c) (not e) h))
+      planned_counted c e refl refl (not_true c (and_left (not c) (not e) h)) (not_true e (and_right (not c) (not e) h))
   planned jmp h = record { bad = refl; small = refl }
   planned jsr h = record { bad = refl; small = refl }
   planned rts h = record { bad = refl; small = refl }

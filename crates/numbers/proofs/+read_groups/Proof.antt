@@ -58,38 +58,38 @@ module _ (t : ℕ) where
     s = d.before.before.before.before.before.before
 
     abbrev some : s.args.end ≡ 0 → ⊥
-    some = d.before.before.before.before.if-end-eq0.left
+    some = d.before.before.before.before.if-end-eq0.false
 
     byte : get_or s.args.journal.now (s.args.end - 1) 0 < 256
     byte = (d.before.before.before.shared_slice_known-2-1.given (s.args.end - 1)).fits
 
   returns_5 : lts.Need-returns-in_default below here reads.Post
   returns_5 c =
-      let d = c.before.before.before in
-      let g = c.before.before.read_groups in
+      let d = c.before.before in
+      let g = c.before.read_groups in
       read_bad _ _ _ (some d) (s d).requires.1.0 d.before.if-k-eq0.false d.if-b-lt128.false _ g.ensures c.in_default.is
 
   returns_6 : lts.Need-returns-then-hi-eq0 below here reads.Post
   returns_6 c =
-      let d = c.before.before.before.before.before in
-      let g = c.before.before.before.before.read_groups in
-      let h = c.before.before.hi-1.given in
-      read_zero _ _ _ (some d) (s d).requires.1.0 d.before.if-k-eq0.false d.if-b-lt128.false _ g.ensures _ _ h.1 c.if-hi-eq0.true
+      let d = c.before.before.before in
+      let g = c.before.before.read_groups in
+      let h = c.before.in-Number in
+      read_zero _ _ _ (some d) (s d).requires.1.0 d.before.if-k-eq0.false d.if-b-lt128.false _ g.ensures _ _ h.is c.if-hi-eq0.true
 
   join_group_requires : lts.Need-join_group-requires below here reads.Post
   join_group_requires c κs =
-      let d = c.before.before.before.before.before in
-      let g = c.before.before.before.before.read_groups in
-      let h = c.before.before.hi-1.given in
-      let less = read_bound _ _ (s d).args.k (some d) (s d).requires.1.0 d.before.if-k-eq0.false d.if-b-lt128.false _ g.ensures _ _ h.1 (byte d) in
+      let d = c.before.before.before in
+      let g = c.before.before.read_groups in
+      let h = c.before.in-Number in
+      let less = read_bound _ _ (s d).args.k (some d) (s d).requires.1.0 d.before.if-k-eq0.false d.if-b-lt128.false _ g.ensures _ _ h.is (byte d) in
       (omega (arith, less, top_32 (s d).args.k (s d).requires.1.1), d.if-b-lt128.false)
 
   returns_7 : lts.Need-returns below here reads.Post
   returns_7 c =
-      let d = c.before.before.before.before.before.before in
-      let g = c.before.before.before.before.before.read_groups in
-      let h = c.before.before.before.hi-1.given in
-      read_more _ _ _ (some d) (s d).requires.1.0 d.before.if-k-eq0.false d.if-b-lt128.false _ g.ensures _ _ h.1
+      let d = c.before.before.before.before in
+      let g = c.before.before.before.read_groups in
+      let h = c.before.before.in-Number in
+      read_more _ _ _ (some d) (s d).requires.1.0 d.before.if-k-eq0.false d.if-b-lt128.false _ g.ensures _ _ h.is
       c.before.if-hi-eq0.false (byte d) _ c.join_group.ensures
 
 pub +read_groups_spec : {M : Type 1} → statement M
