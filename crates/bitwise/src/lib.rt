@@ -31,7 +31,7 @@ fn shift_place(
     op: u32,
     f: Flow,
 ) -> Plan
-    ensures { record { r = r.exit.now; result = result } ≡ shift_place k n mode z r.entry.now (view_of (map (λ x. x.now) mem.now)) op f }
+    ensures { record { r = r.new; p = result } ≡ shift_place k n mode z r.old (view_of (map (λ x. x.now) mem.now)) op f }
 {
     let left = op / 256 % 2 == 1;
     let d = operand::modify(r, mem, mode, op % 8, z, f);
@@ -42,7 +42,7 @@ fn shift_place(
 
 // A data register, at any size.
 pub fn shift_register(r: &mut [u32; SLOTS], mem: &Parts, op: u32, f: Flow) -> Plan
-    ensures { record { r = r.exit.now; result = result } ≡ shift_register r.entry.now (view_of (map (λ x. x.now) mem.now)) op f }
+    ensures { record { r = r.new; p = result } ≡ shift_register r.old (view_of (map (λ x. x.now) mem.now)) op f }
 {
     let n = shift_count(r, op);
     shift_place(op / 8 % 4, n, codes::IN_DATA, op / 64 % 4, r, mem, op, f)
@@ -50,7 +50,7 @@ pub fn shift_register(r: &mut [u32; SLOTS], mem: &Parts, op: u32, f: Flow) -> Pl
 
 // A word in memory, one place.
 pub fn shift_memory(r: &mut [u32; SLOTS], mem: &Parts, op: u32, f: Flow) -> Plan
-    ensures { record { r = r.exit.now; result = result } ≡ shift_memory r.entry.now (view_of (map (λ x. x.now) mem.now)) op f }
+    ensures { record { r = r.new; p = result } ≡ shift_memory r.old (view_of (map (λ x. x.now) mem.now)) op f }
 {
     shift_place(op / 512 % 4, 1, op / 8 % 8, codes::WORD, r, mem, op, f)
 }
@@ -65,7 +65,7 @@ fn bit_size(op: u32) -> u32
 
 // BTST, BCHG, BCLR, BSET of bit n; BTST writes nothing.
 fn bit_place(n: u32, r: &mut [u32; SLOTS], mem: &Parts, op: u32, f: Flow) -> Plan
-    ensures { record { r = r.exit.now; result = result } ≡ bit_place n r.entry.now (view_of (map (λ x. x.now) mem.now)) op f }
+    ensures { record { r = r.new; p = result } ≡ bit_place n r.old (view_of (map (λ x. x.now) mem.now)) op f }
 {
     let z = bit_size(op);
     let k = op / 64 % 4;
@@ -82,7 +82,7 @@ fn bit_place(n: u32, r: &mut [u32; SLOTS], mem: &Parts, op: u32, f: Flow) -> Pla
 
 // The bit's number is in a data register.
 pub fn bit_dynamic(r: &mut [u32; SLOTS], mem: &Parts, op: u32, f: Flow) -> Plan
-    ensures { record { r = r.exit.now; result = result } ≡ bit_dynamic r.entry.now (view_of (map (λ x. x.now) mem.now)) op f }
+    ensures { record { r = r.new; p = result } ≡ bit_dynamic r.old (view_of (map (λ x. x.now) mem.now)) op f }
 {
     let n = operand::get(r, op / 512 % 8);
     bit_place(n, r, mem, op, f)
@@ -90,7 +90,7 @@ pub fn bit_dynamic(r: &mut [u32; SLOTS], mem: &Parts, op: u32, f: Flow) -> Plan
 
 // The bit's number is in the word after the operation word.
 pub fn bit_static(r: &mut [u32; SLOTS], mem: &Parts, op: u32, f: Flow) -> Plan
-    ensures { record { r = r.exit.now; result = result } ≡ bit_static r.entry.now (view_of (map (λ x. x.now) mem.now)) op f }
+    ensures { record { r = r.new; p = result } ≡ bit_static r.old (view_of (map (λ x. x.now) mem.now)) op f }
 {
     let w = bus::next_word(mem, f);
     let g = w.flow;

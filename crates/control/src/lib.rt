@@ -52,7 +52,7 @@ pub fn branch(mem: &Parts, op: u32, f: Flow) -> Plan
 
 // BSR.
 pub fn branch_subroutine(r: &mut [u32; SLOTS], mem: &Parts, op: u32, f: Flow) -> Plan
-    ensures { record { r = r.exit.now; result = result } ≡ branch_subroutine r.entry.now (view_of (map (λ x. x.now) mem.now)) op f }
+    ensures { record { r = r.new; p = result } ≡ branch_subroutine r.old (view_of (map (λ x. x.now) mem.now)) op f }
 {
     let w = displacement(mem, op, f);
     let g = w.flow;
@@ -69,7 +69,7 @@ fn counted(r: &[u32; SLOTS], n: u32) -> u32
 
 // DBcc.
 pub fn decrement_branch(r: &mut [u32; SLOTS], mem: &Parts, op: u32, f: Flow) -> Plan
-    ensures { record { r = r.exit.now; result = result } ≡ decrement_branch r.entry.now (view_of (map (λ x. x.now) mem.now)) op f }
+    ensures { record { r = r.new; p = result } ≡ decrement_branch r.old (view_of (map (λ x. x.now) mem.now)) op f }
 {
     let w = bus::next_word(mem, f);
     let g = w.flow;
@@ -89,7 +89,7 @@ pub fn decrement_branch(r: &mut [u32; SLOTS], mem: &Parts, op: u32, f: Flow) -> 
 
 // Scc. The flags stay as they are.
 pub fn set_condition(r: &mut [u32; SLOTS], mem: &Parts, op: u32, f: Flow) -> Plan
-    ensures { record { r = r.exit.now; result = result } ≡ set_condition r.entry.now (view_of (map (λ x. x.now) mem.now)) op f }
+    ensures { record { r = r.new; p = result } ≡ set_condition r.old (view_of (map (λ x. x.now) mem.now)) op f }
 {
     let b = operand::modify(r, mem, op / 8 % 8, op % 8, codes::BYTE, f);
     let q = b.q;
@@ -112,7 +112,7 @@ pub fn jump_to(r: &[u32; SLOTS], mem: &Parts, op: u32, f: Flow) -> Plan
 
 // JSR. The address is formed before A7 falls.
 pub fn jump_subroutine(r: &mut [u32; SLOTS], mem: &Parts, op: u32, f: Flow) -> Plan
-    ensures { record { r = r.exit.now; result = result } ≡ jump_subroutine r.entry.now (view_of (map (λ x. x.now) mem.now)) op f }
+    ensures { record { r = r.new; p = result } ≡ jump_subroutine r.old (view_of (map (λ x. x.now) mem.now)) op f }
 {
     let q = operand::locate(r, mem, op / 8 % 8, op % 8, codes::LONG, f);
     let g = q.flow;
@@ -129,7 +129,7 @@ pub fn no_operation(f: Flow) -> Plan
 
 // RTR. Of the word only the flags are taken; the jump comes before SR is written.
 pub fn return_restore(r: &mut [u32; SLOTS], mem: &Parts, op: u32, f: Flow) -> Plan
-    ensures { record { r = r.exit.now; result = result } ≡ return_restore r.entry.now (view_of (map (λ x. x.now) mem.now)) op f }
+    ensures { record { r = r.new; p = result } ≡ return_restore r.old (view_of (map (λ x. x.now) mem.now)) op f }
 {
     let c = operand::source(
         r,
@@ -154,7 +154,7 @@ pub fn return_restore(r: &mut [u32; SLOTS], mem: &Parts, op: u32, f: Flow) -> Pl
 
 // RTS.
 pub fn return_subroutine(r: &mut [u32; SLOTS], mem: &Parts, op: u32, f: Flow) -> Plan
-    ensures { record { r = r.exit.now; result = result } ≡ return_subroutine r.entry.now (view_of (map (λ x. x.now) mem.now)) op f }
+    ensures { record { r = r.new; p = result } ≡ return_subroutine r.old (view_of (map (λ x. x.now) mem.now)) op f }
 {
     let t = operand::source(
         r,

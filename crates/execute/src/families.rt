@@ -29,7 +29,7 @@ pub fn refused(vec: u32, f: Flow) -> Plan
 // Illegal, and words that begin 1010 and 1111.
 pub fn refused_kind(j: u32, r: &[u32; SLOTS], mem: &Parts, op: u32, f: Flow) -> Timed
     requires { j < 3 }
-    ensures plan_value { record { r = r.entry.now; p = result.plan } ≡ refused_kind j r.entry.now (view_of (map (λ x. x.now) mem.now)) op f }
+    ensures plan_value { record { r = r.old; p = result.plan } ≡ refused_kind j r.old (view_of (map (λ x. x.now) mem.now)) op f }
     ensures clocks_value { result.clocks ≡ clocks (Illegal + j) r.now (view_of (map (λ x. x.now) mem.now)) op f }
 {
     match j {
@@ -42,7 +42,7 @@ pub fn refused_kind(j: u32, r: &[u32; SLOTS], mem: &Parts, op: u32, f: Flow) -> 
 // Data movement, from MOVE on.
 pub fn movement_kind(j: u32, r: &mut [u32; SLOTS], mem: &Parts, op: u32, f: Flow) -> Timed
     requires { j < 15 }
-    ensures plan_value { record { r = r.exit.now; p = result.plan } ≡ movement_kind j r.entry.now (view_of (map (λ x. x.now) mem.now)) op f }
+    ensures plan_value { record { r = r.new; p = result.plan } ≡ movement_kind j r.old (view_of (map (λ x. x.now) mem.now)) op f }
     ensures clocks_value { result.clocks ≡ clocks (Move + j) r.old (view_of (map (λ x. x.now) mem.now)) op f }
 {
     match j {
@@ -85,7 +85,7 @@ pub fn movement_kind(j: u32, r: &mut [u32; SLOTS], mem: &Parts, op: u32, f: Flow
 // Integer arithmetic, from ADD_TO_REGISTER on.
 pub fn integer_kind(j: u32, r: &mut [u32; SLOTS], mem: &Parts, op: u32, f: Flow) -> Timed
     requires { j < 28 }
-    ensures plan_value { record { r = r.exit.now; p = result.plan } ≡ integer_kind j r.entry.now (view_of (map (λ x. x.now) mem.now)) op f }
+    ensures plan_value { record { r = r.new; p = result.plan } ≡ integer_kind j r.old (view_of (map (λ x. x.now) mem.now)) op f }
     ensures clocks_value { result.clocks ≡ clocks (AddToRegister + j) r.old (view_of (map (λ x. x.now) mem.now)) op f }
 {
     match j {
@@ -195,7 +195,7 @@ pub fn integer_kind(j: u32, r: &mut [u32; SLOTS], mem: &Parts, op: u32, f: Flow)
 // Kinds 46 to 61: logical, shift and rotate, bit, decimal.
 pub fn logical_kind(j: u32, r: &mut [u32; SLOTS], mem: &Parts, op: u32, f: Flow) -> Timed
     requires { j < 16 }
-    ensures plan_value { record { r = r.exit.now; p = result.plan } ≡ logical_kind j r.entry.now (view_of (map (λ x. x.now) mem.now)) op f }
+    ensures plan_value { record { r = r.new; p = result.plan } ≡ logical_kind j r.old (view_of (map (λ x. x.now) mem.now)) op f }
     ensures clocks_value { result.clocks ≡ clocks (AndToRegister + j) r.old (view_of (map (λ x. x.now) mem.now)) op f }
 {
     match j {
@@ -269,7 +269,7 @@ pub fn logical_kind(j: u32, r: &mut [u32; SLOTS], mem: &Parts, op: u32, f: Flow)
 // Program control, from BCC on.
 pub fn control_kind(j: u32, r: &mut [u32; SLOTS], mem: &Parts, op: u32, f: Flow) -> Timed
     requires { j < 10 }
-    ensures plan_value { record { r = r.exit.now; p = result.plan } ≡ control_kind j r.entry.now (view_of (map (λ x. x.now) mem.now)) op f }
+    ensures plan_value { record { r = r.new; p = result.plan } ≡ control_kind j r.old (view_of (map (λ x. x.now) mem.now)) op f }
     ensures clocks_value { result.clocks ≡ clocks (Bcc + j) r.old (view_of (map (λ x. x.now) mem.now)) op f }
 {
     match j {
@@ -303,7 +303,7 @@ pub fn control_kind(j: u32, r: &mut [u32; SLOTS], mem: &Parts, op: u32, f: Flow)
 
 // System control, from AND_I_TO_CCR on.
 pub fn system_kind(j: u32, r: &mut [u32; SLOTS], mem: &Parts, op: u32, f: Flow) -> Timed
-    ensures plan_value { record { r = r.exit.now; p = result.plan } ≡ system_kind j r.entry.now (view_of (map (λ x. x.now) mem.now)) op f }
+    ensures plan_value { record { r = r.new; p = result.plan } ≡ system_kind j r.old (view_of (map (λ x. x.now) mem.now)) op f }
     ensures clocks_value { result.clocks ≡ clocks (AndIToCcr + j) r.old (view_of (map (λ x. x.now) mem.now)) op f }
 {
     match j {

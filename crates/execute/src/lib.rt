@@ -22,7 +22,7 @@ pub struct Timed {
 
 // The function of a kind, and its clocks.
 fn dispatch(k: u32, r: &mut [u32; SLOTS], mem: &Parts, op: u32, f: Flow) -> Timed
-    ensures plan_value { record { r = r.exit.now; p = result.plan } ≡ dispatch k r.entry.now (view_of (map (λ x. x.now) mem.now)) op f }
+    ensures plan_value { record { r = r.new; p = result.plan } ≡ dispatch k r.old (view_of (map (λ x. x.now) mem.now)) op f }
     ensures clocks_value { result.clocks ≡ clocks k r.old (view_of (map (λ x. x.now) mem.now)) op f }
 {
     let first = k < kinds::MOVE;
@@ -50,7 +50,7 @@ fn dispatch(k: u32, r: &mut [u32; SLOTS], mem: &Parts, op: u32, f: Flow) -> Time
 
 // In user state a privileged instruction is refused.
 fn as_user(k: u32, r: &mut [u32; SLOTS], mem: &Parts, op: u32, f: Flow) -> Timed
-    ensures plan_value { record { r = r.exit.now; p = result.plan } ≡ as_user k r.entry.now (view_of (map (λ x. x.now) mem.now)) op f }
+    ensures plan_value { record { r = r.new; p = result.plan } ≡ as_user k r.old (view_of (map (λ x. x.now) mem.now)) op f }
     ensures clocks_value { result.clocks ≡ user_clocks k r.old (view_of (map (λ x. x.now) mem.now)) op f }
 {
     let high = decode::privileged(k);
@@ -87,7 +87,7 @@ fn registers_there(r: &[u32]) -> usize
 // The operation word alone decides illegal and privileged. The commonest kinds, none of them privileged, are asked first, for speed. Where a
 // branch leaves PC at another place than the next instruction's it was taken: its condition is asked once more only where it may not be.
 pub fn execute(r: &mut [u32; SLOTS], mem: &Parts, op: u32, f: Flow) -> Timed
-    ensures plan_value { record { r = r.exit.now; p = result.plan } ≡ execute r.entry.now (view_of (map (λ x. x.now) mem.now)) op f }
+    ensures plan_value { record { r = r.new; p = result.plan } ≡ execute r.old (view_of (map (λ x. x.now) mem.now)) op f }
     ensures clocks_value { result.clocks ≡ own_clocks r.old (view_of (map (λ x. x.now) mem.now)) op f }
 {
     let k = kind_table::kind_of(op);

@@ -95,7 +95,7 @@ fn only_flags(a: Flagged, f: Flow) -> Plan
 
 // A result and its flags, to register n.
 fn into_register(r: &mut [u32; SLOTS], n: u32, z: u32, a: Flagged, f: Flow) -> Plan
-    ensures { record { r = r.exit.now; result = result } ≡ into_register r.entry.now n z a f }
+    ensures { record { r = r.new; p = result } ≡ into_register r.old n z a f }
 {
     operand::put_low(r, n, z, a.value);
     only_flags(a, f)
@@ -103,7 +103,7 @@ fn into_register(r: &mut [u32; SLOTS], n: u32, z: u32, a: Flagged, f: Flow) -> P
 
 // ADD, SUB, AND, OR, CMP <ea>,Dn.
 pub fn to_register(which: u32, r: &mut [u32; SLOTS], mem: &Parts, op: u32, f: Flow) -> Plan
-    ensures { record { r = r.exit.now; result = result } ≡ to_register which r.entry.now (view_of (map (λ x. x.now) mem.now)) op f }
+    ensures { record { r = r.new; p = result } ≡ to_register which r.old (view_of (map (λ x. x.now) mem.now)) op f }
 {
     let z = op / 64 % 4;
     let n = op / 512 % 8;
@@ -115,7 +115,7 @@ pub fn to_register(which: u32, r: &mut [u32; SLOTS], mem: &Parts, op: u32, f: Fl
 
 // A source b onto the operand of the operation word's mode.
 fn onto(which: u32, b: u32, r: &mut [u32; SLOTS], mem: &Parts, op: u32, f: Flow) -> Plan
-    ensures { record { r = r.exit.now; result = result } ≡ onto which b r.entry.now (view_of (map (λ x. x.now) mem.now)) op f }
+    ensures { record { r = r.new; p = result } ≡ onto which b r.old (view_of (map (λ x. x.now) mem.now)) op f }
 {
     let z = op / 64 % 4;
     let d = operand::modify(r, mem, op / 8 % 8, op % 8, z, f);
@@ -126,7 +126,7 @@ fn onto(which: u32, b: u32, r: &mut [u32; SLOTS], mem: &Parts, op: u32, f: Flow)
 
 // ADD, SUB, AND, OR, EOR Dn,<ea>.
 pub fn to_memory(which: u32, r: &mut [u32; SLOTS], mem: &Parts, op: u32, f: Flow) -> Plan
-    ensures { record { r = r.exit.now; result = result } ≡ to_memory which r.entry.now (view_of (map (λ x. x.now) mem.now)) op f }
+    ensures { record { r = r.new; p = result } ≡ to_memory which r.old (view_of (map (λ x. x.now) mem.now)) op f }
 {
     let b = operand::get(r, op / 512 % 8);
     onto(which, b, r, mem, op, f)
@@ -134,7 +134,7 @@ pub fn to_memory(which: u32, r: &mut [u32; SLOTS], mem: &Parts, op: u32, f: Flow
 
 // ADDI, SUBI, ANDI, ORI, EORI.
 pub fn immediate_to(which: u32, r: &mut [u32; SLOTS], mem: &Parts, op: u32, f: Flow) -> Plan
-    ensures { record { r = r.exit.now; result = result } ≡ immediate_to which r.entry.now (view_of (map (λ x. x.now) mem.now)) op f }
+    ensures { record { r = r.new; p = result } ≡ immediate_to which r.old (view_of (map (λ x. x.now) mem.now)) op f }
 {
     let i = operand::immediate(mem, op / 64 % 4, f);
     let g = i.flow;
@@ -143,7 +143,7 @@ pub fn immediate_to(which: u32, r: &mut [u32; SLOTS], mem: &Parts, op: u32, f: F
 
 // CMPI.
 pub fn compare_immediate(r: &mut [u32; SLOTS], mem: &Parts, op: u32, f: Flow) -> Plan
-    ensures { record { r = r.exit.now; result = result } ≡ compare_immediate r.entry.now (view_of (map (λ x. x.now) mem.now)) op f }
+    ensures { record { r = r.new; p = result } ≡ compare_immediate r.old (view_of (map (λ x. x.now) mem.now)) op f }
 {
     let z = op / 64 % 4;
     let i = operand::immediate(mem, z, f);
@@ -155,14 +155,14 @@ pub fn compare_immediate(r: &mut [u32; SLOTS], mem: &Parts, op: u32, f: Flow) ->
 
 // ADDQ, SUBQ to a place that is no address register.
 pub fn quick_to(which: u32, r: &mut [u32; SLOTS], mem: &Parts, op: u32, f: Flow) -> Plan
-    ensures { record { r = r.exit.now; result = result } ≡ quick_to which r.entry.now (view_of (map (λ x. x.now) mem.now)) op f }
+    ensures { record { r = r.new; p = result } ≡ quick_to which r.old (view_of (map (λ x. x.now) mem.now)) op f }
 {
     onto(which, plan::quick(op), r, mem, op, f)
 }
 
 // ADDQ, SUBQ to An: 32 bits at any size, and no flag.
 pub fn quick_address(which: u32, r: &mut [u32; SLOTS], op: u32, f: Flow) -> Plan
-    ensures { record { r = r.exit.now; result = result } ≡ quick_sum which r.entry.now op f }
+    ensures { record { r = r.new; p = result } ≡ quick_sum which r.old op f }
 {
     let n = codes::A0 + op % 8;
     let a = address_sum(which, operand::get(r, n), plan::quick(op));
@@ -172,7 +172,7 @@ pub fn quick_address(which: u32, r: &mut [u32; SLOTS], op: u32, f: Flow) -> Plan
 
 // ADDA, SUBA: the address register as the source's step left it.
 pub fn to_address(which: u32, r: &mut [u32; SLOTS], mem: &Parts, op: u32, f: Flow) -> Plan
-    ensures { record { r = r.exit.now; result = result } ≡ to_address which r.entry.now (view_of (map (λ x. x.now) mem.now)) op f }
+    ensures { record { r = r.new; p = result } ≡ to_address which r.old (view_of (map (λ x. x.now) mem.now)) op f }
 {
     let z = 1 + op / 256 % 2;
     let n = codes::A0 + op / 512 % 8;
@@ -186,7 +186,7 @@ pub fn to_address(which: u32, r: &mut [u32; SLOTS], mem: &Parts, op: u32, f: Flo
 
 // CMPA: 32 bits, the address register as the source's step left it.
 pub fn compare_address(r: &mut [u32; SLOTS], mem: &Parts, op: u32, f: Flow) -> Plan
-    ensures { record { r = r.exit.now; result = result } ≡ compare_address r.entry.now (view_of (map (λ x. x.now) mem.now)) op f }
+    ensures { record { r = r.new; p = result } ≡ compare_address r.old (view_of (map (λ x. x.now) mem.now)) op f }
 {
     let z = 1 + op / 256 % 2;
     let n = codes::A0 + op / 512 % 8;
@@ -198,7 +198,7 @@ pub fn compare_address(r: &mut [u32; SLOTS], mem: &Parts, op: u32, f: Flow) -> P
 
 // ADDX, SUBX, ABCD, SBCD: Dy,Dx or -(Ay),-(Ax).
 pub fn paired(which: u32, r: &mut [u32; SLOTS], mem: &Parts, op: u32, f: Flow) -> Plan
-    ensures { record { r = r.exit.now; result = result } ≡ paired which r.entry.now (view_of (map (λ x. x.now) mem.now)) op f }
+    ensures { record { r = r.new; p = result } ≡ paired which r.old (view_of (map (λ x. x.now) mem.now)) op f }
 {
     let z = op / 64 % 4;
     let mode = op / 8 % 2 * codes::PREDECREMENT;
@@ -212,7 +212,7 @@ pub fn paired(which: u32, r: &mut [u32; SLOTS], mem: &Parts, op: u32, f: Flow) -
 
 // CMPM (Ay)+,(Ax)+.
 pub fn compare_memory(r: &mut [u32; SLOTS], mem: &Parts, op: u32, f: Flow) -> Plan
-    ensures { record { r = r.exit.now; result = result } ≡ compare_memory r.entry.now (view_of (map (λ x. x.now) mem.now)) op f }
+    ensures { record { r = r.new; p = result } ≡ compare_memory r.old (view_of (map (λ x. x.now) mem.now)) op f }
 {
     let z = op / 64 % 4;
     let s = operand::source(r, mem, codes::POSTINCREMENT, op % 8, z, f);
@@ -224,7 +224,7 @@ pub fn compare_memory(r: &mut [u32; SLOTS], mem: &Parts, op: u32, f: Flow) -> Pl
 
 // The operand of the operation word's mode, alone.
 fn alone(which: u32, z: u32, r: &mut [u32; SLOTS], mem: &Parts, op: u32, f: Flow) -> Plan
-    ensures { record { r = r.exit.now; result = result } ≡ alone which z r.entry.now (view_of (map (λ x. x.now) mem.now)) op f }
+    ensures { record { r = r.new; p = result } ≡ alone which z r.old (view_of (map (λ x. x.now) mem.now)) op f }
 {
     let d = operand::modify(r, mem, op / 8 % 8, op % 8, z, f);
     let q = d.q;
@@ -234,21 +234,21 @@ fn alone(which: u32, z: u32, r: &mut [u32; SLOTS], mem: &Parts, op: u32, f: Flow
 
 // NEG, NEGX, NOT, CLR, NBCD, TAS. TAS, a byte, has 3 for its size.
 pub fn unary(which: u32, r: &mut [u32; SLOTS], mem: &Parts, op: u32, f: Flow) -> Plan
-    ensures { record { r = r.exit.now; result = result } ≡ unary which r.entry.now (view_of (map (λ x. x.now) mem.now)) op f }
+    ensures { record { r = r.new; p = result } ≡ unary which r.old (view_of (map (λ x. x.now) mem.now)) op f }
 {
     alone(which, op / 64 % 4 % 3, r, mem, op, f)
 }
 
 // EXT: the operation word's mode is 0, a data register.
 pub fn extend(r: &mut [u32; SLOTS], mem: &Parts, op: u32, f: Flow) -> Plan
-    ensures { record { r = r.exit.now; result = result } ≡ extend r.entry.now (view_of (map (λ x. x.now) mem.now)) op f }
+    ensures { record { r = r.new; p = result } ≡ extend r.old (view_of (map (λ x. x.now) mem.now)) op f }
 {
     alone(codes::EXTEND, 1 + op / 64 % 2, r, mem, op, f)
 }
 
 // TST.
 pub fn test(r: &mut [u32; SLOTS], mem: &Parts, op: u32, f: Flow) -> Plan
-    ensures { record { r = r.exit.now; result = result } ≡ test r.entry.now (view_of (map (λ x. x.now) mem.now)) op f }
+    ensures { record { r = r.new; p = result } ≡ test r.old (view_of (map (λ x. x.now) mem.now)) op f }
 {
     let z = op / 64 % 4;
     let w = operand::source(r, mem, op / 8 % 8, op % 8, z, f);
@@ -258,7 +258,7 @@ pub fn test(r: &mut [u32; SLOTS], mem: &Parts, op: u32, f: Flow) -> Plan
 
 // MULS, MULU <ea>,Dn.
 pub fn multiply(which: u32, r: &mut [u32; SLOTS], mem: &Parts, op: u32, f: Flow) -> Plan
-    ensures { record { r = r.exit.now; result = result } ≡ multiply which r.entry.now (view_of (map (λ x. x.now) mem.now)) op f }
+    ensures { record { r = r.new; p = result } ≡ multiply which r.old (view_of (map (λ x. x.now) mem.now)) op f }
 {
     let n = op / 512 % 8;
     let w = operand::source(r, mem, op / 8 % 8, op % 8, codes::WORD, f);
@@ -269,7 +269,7 @@ pub fn multiply(which: u32, r: &mut [u32; SLOTS], mem: &Parts, op: u32, f: Flow)
 
 // DIVS, DIVU: a zero divisor traps, with the flags set and the source's step kept.
 pub fn divide(which: u32, r: &mut [u32; SLOTS], mem: &Parts, op: u32, f: Flow) -> Plan
-    ensures { record { r = r.exit.now; result = result } ≡ divide which r.entry.now (view_of (map (λ x. x.now) mem.now)) op f }
+    ensures { record { r = r.new; p = result } ≡ divide which r.old (view_of (map (λ x. x.now) mem.now)) op f }
 {
     let n = op / 512 % 8;
     let w = operand::source(r, mem, op / 8 % 8, op % 8, codes::WORD, f);

@@ -91,7 +91,7 @@ fn load_list(r: &mut [u32; SLOTS], mem: &Parts, k: u32, w: Way, f: Flow) -> Spot
 
 // The address is formed once, before any load. (An)+, the only mode here that steps, leaves An at the final address.
 pub fn movem_to_registers(r: &mut [u32; SLOTS], mem: &Parts, op: u32, f: Flow) -> Plan
-    ensures { record { r = r.exit.now; result = result } ≡ movem_to_registers r.entry.now (view_of (map (λ x. x.now) mem.now)) op f }
+    ensures { record { r = r.new; p = result } ≡ movem_to_registers r.old (view_of (map (λ x. x.now) mem.now)) op f }
 {
     let z = 1 + op / 64 % 2;
     let l = bus::next_word(mem, f);
@@ -112,7 +112,7 @@ pub fn movem_to_registers(r: &mut [u32; SLOTS], mem: &Parts, op: u32, f: Flow) -
 
 // MOVEM to -(An): the plan has An's first value, the bank its last.
 fn movem_down(r: &mut [u32; SLOTS], list: u32, op: u32, f: Flow) -> Plan
-    ensures { record { r = r.exit.now; result = result } ≡ movem_down r.entry.now list op f }
+    ensures { record { r = r.new; p = result } ≡ movem_down r.old list op f }
 {
     let i = codes::A0 + op % 8;
     let a = operand::get(r, i);
@@ -127,7 +127,7 @@ fn movem_down(r: &mut [u32; SLOTS], list: u32, op: u32, f: Flow) -> Plan
 }
 
 pub fn movem_to_memory(r: &mut [u32; SLOTS], mem: &Parts, op: u32, f: Flow) -> Plan
-    ensures { record { r = r.exit.now; result = result } ≡ movem_to_memory r.entry.now (view_of (map (λ x. x.now) mem.now)) op f }
+    ensures { record { r = r.new; p = result } ≡ movem_to_memory r.old (view_of (map (λ x. x.now) mem.now)) op f }
 {
     let l = bus::next_word(mem, f);
     let g = l.flow;

@@ -33,7 +33,7 @@ fn move_size(op: u32) -> u32
 // the source's step before the destination's address. The source is read before the destination's step: MOVE.L A0,-(A0) stores the
 // first value.
 fn move_operands(r: &mut [u32; SLOTS], mem: &Parts, op: u32, z: u32, f: Flow) -> Both
-    ensures { record { r = r.exit.now; result = result } ≡ move_operands r.entry.now (view_of (map (λ x. x.now) mem.now)) op z f }
+    ensures { record { r = r.new; b = result } ≡ move_operands r.old (view_of (map (λ x. x.now) mem.now)) op z f }
 {
     let s = operand::target(r, mem, op / 8 % 8, op % 8, z, f);
     let sf = s.flow;
@@ -57,7 +57,7 @@ fn move_operands(r: &mut [u32; SLOTS], mem: &Parts, op: u32, z: u32, f: Flow) ->
 }
 
 pub fn move_data(r: &mut [u32; SLOTS], mem: &Parts, op: u32, f: Flow) -> Plan
-    ensures { record { r = r.exit.now; result = result } ≡ move_data r.entry.now (view_of (map (λ x. x.now) mem.now)) op f }
+    ensures { record { r = r.new; p = result } ≡ move_data r.old (view_of (map (λ x. x.now) mem.now)) op f }
 {
     let z = move_size(op);
     let b = move_operands(r, mem, op, z, f);
@@ -66,7 +66,7 @@ pub fn move_data(r: &mut [u32; SLOTS], mem: &Parts, op: u32, f: Flow) -> Plan
 }
 
 pub fn move_address(r: &mut [u32; SLOTS], mem: &Parts, op: u32, f: Flow) -> Plan
-    ensures { record { r = r.exit.now; result = result } ≡ move_address r.entry.now (view_of (map (λ x. x.now) mem.now)) op f }
+    ensures { record { r = r.new; p = result } ≡ move_address r.old (view_of (map (λ x. x.now) mem.now)) op f }
 {
     let z = move_size(op);
     let w = operand::source(r, mem, op / 8 % 8, op % 8, z, f);
@@ -76,7 +76,7 @@ pub fn move_address(r: &mut [u32; SLOTS], mem: &Parts, op: u32, f: Flow) -> Plan
 }
 
 pub fn move_quick(r: &mut [u32; SLOTS], mem: &Parts, op: u32, f: Flow) -> Plan
-    ensures { record { r = r.exit.now; result = result } ≡ move_quick r.entry.now (view_of (map (λ x. x.now) mem.now)) op f }
+    ensures { record { r = r.new; p = result } ≡ move_quick r.old (view_of (map (λ x. x.now) mem.now)) op f }
 {
     let a = alu::moved(bits::sign_byte(op), f.sr, codes::LONG);
     operand::put(r, op / 512 % 8, a.value);
@@ -84,7 +84,7 @@ pub fn move_quick(r: &mut [u32; SLOTS], mem: &Parts, op: u32, f: Flow) -> Plan
 }
 
 pub fn load_address(r: &mut [u32; SLOTS], mem: &Parts, op: u32, f: Flow) -> Plan
-    ensures { record { r = r.exit.now; result = result } ≡ load_address r.entry.now (view_of (map (λ x. x.now) mem.now)) op f }
+    ensures { record { r = r.new; p = result } ≡ load_address r.old (view_of (map (λ x. x.now) mem.now)) op f }
 {
     let q = operand::locate(r, mem, op / 8 % 8, op % 8, codes::LONG, f);
     let g = q.flow;
@@ -94,7 +94,7 @@ pub fn load_address(r: &mut [u32; SLOTS], mem: &Parts, op: u32, f: Flow) -> Plan
 
 // The address is formed before A7 falls.
 pub fn push_address(r: &mut [u32; SLOTS], mem: &Parts, op: u32, f: Flow) -> Plan
-    ensures { record { r = r.exit.now; result = result } ≡ push_address r.entry.now (view_of (map (λ x. x.now) mem.now)) op f }
+    ensures { record { r = r.new; p = result } ≡ push_address r.old (view_of (map (λ x. x.now) mem.now)) op f }
 {
     let q = operand::locate(r, mem, op / 8 % 8, op % 8, codes::LONG, f);
     let g = q.flow;
@@ -103,7 +103,7 @@ pub fn push_address(r: &mut [u32; SLOTS], mem: &Parts, op: u32, f: Flow) -> Plan
 
 // EXG of registers i and j.
 fn exchange(r: &mut [u32; SLOTS], i: u32, j: u32, f: Flow) -> Plan
-    ensures { record { r = r.exit.now; result = result } ≡ exchange r.entry.now i j f }
+    ensures { record { r = r.new; p = result } ≡ exchange r.old i j f }
 {
     let x = operand::get(r, i);
     let y = operand::get(r, j);
@@ -113,25 +113,25 @@ fn exchange(r: &mut [u32; SLOTS], i: u32, j: u32, f: Flow) -> Plan
 }
 
 pub fn exchange_data(r: &mut [u32; SLOTS], mem: &Parts, op: u32, f: Flow) -> Plan
-    ensures { record { r = r.exit.now; result = result } ≡ exchange_data r.entry.now (view_of (map (λ x. x.now) mem.now)) op f }
+    ensures { record { r = r.new; p = result } ≡ exchange_data r.old (view_of (map (λ x. x.now) mem.now)) op f }
 {
     exchange(r, op / 512 % 8, op % 8, f)
 }
 
 pub fn exchange_address(r: &mut [u32; SLOTS], mem: &Parts, op: u32, f: Flow) -> Plan
-    ensures { record { r = r.exit.now; result = result } ≡ exchange_address r.entry.now (view_of (map (λ x. x.now) mem.now)) op f }
+    ensures { record { r = r.new; p = result } ≡ exchange_address r.old (view_of (map (λ x. x.now) mem.now)) op f }
 {
     exchange(r, codes::A0 + op / 512 % 8, codes::A0 + op % 8, f)
 }
 
 pub fn exchange_both(r: &mut [u32; SLOTS], mem: &Parts, op: u32, f: Flow) -> Plan
-    ensures { record { r = r.exit.now; result = result } ≡ exchange_both r.entry.now (view_of (map (λ x. x.now) mem.now)) op f }
+    ensures { record { r = r.new; p = result } ≡ exchange_both r.old (view_of (map (λ x. x.now) mem.now)) op f }
 {
     exchange(r, op / 512 % 8, codes::A0 + op % 8, f)
 }
 
 pub fn swap(r: &mut [u32; SLOTS], mem: &Parts, op: u32, f: Flow) -> Plan
-    ensures { record { r = r.exit.now; result = result } ≡ swap r.entry.now (view_of (map (λ x. x.now) mem.now)) op f }
+    ensures { record { r = r.new; p = result } ≡ swap r.old (view_of (map (λ x. x.now) mem.now)) op f }
 {
     let a = alu::swapped(operand::get(r, op % 8), f.sr);
     operand::put(r, op % 8, a.value);
@@ -150,7 +150,7 @@ fn lowered(r: &mut [u32; SLOTS]) -> u32
 
 // What is stored is An after A7 fell: LINK A7 stores A7 already lowered.
 pub fn link(r: &mut [u32; SLOTS], mem: &Parts, op: u32, f: Flow) -> Plan
-    ensures { record { r = r.exit.now; result = result } ≡ link r.entry.now (view_of (map (λ x. x.now) mem.now)) op f }
+    ensures { record { r = r.new; p = result } ≡ link r.old (view_of (map (λ x. x.now) mem.now)) op f }
 {
     let w = bus::next_word(mem, f);
     let g = w.flow;
@@ -167,7 +167,7 @@ pub fn link(r: &mut [u32; SLOTS], mem: &Parts, op: u32, f: Flow) -> Plan
 
 // A7 is put before An: UNLK A7 leaves the long that was read.
 pub fn unlink(r: &mut [u32; SLOTS], mem: &Parts, op: u32, f: Flow) -> Plan
-    ensures { record { r = r.exit.now; result = result } ≡ unlink r.entry.now (view_of (map (λ x. x.now) mem.now)) op f }
+    ensures { record { r = r.new; p = result } ≡ unlink r.old (view_of (map (λ x. x.now) mem.now)) op f }
 {
     let a = operand::get(r, codes::A0 + op % 8);
     let w = bus::read_long(mem, a, codes::DATA_READ, f);
@@ -211,7 +211,7 @@ fn every_other(mem: &Parts, a: u32, z: u32, f: Flow) -> Fetched
 }
 
 pub fn movep_to_register(r: &mut [u32; SLOTS], mem: &Parts, op: u32, f: Flow) -> Plan
-    ensures { record { r = r.exit.now; result = result } ≡ movep_to_register r.entry.now (view_of (map (λ x. x.now) mem.now)) op f }
+    ensures { record { r = r.new; p = result } ≡ movep_to_register r.old (view_of (map (λ x. x.now) mem.now)) op f }
 {
     let z = 1 + op / 64 % 2;
     let q = operand::locate(r, mem, codes::DISPLACED, op % 8, z, f);
@@ -223,7 +223,7 @@ pub fn movep_to_register(r: &mut [u32; SLOTS], mem: &Parts, op: u32, f: Flow) ->
 }
 
 pub fn movep_to_memory(r: &mut [u32; SLOTS], mem: &Parts, op: u32, f: Flow) -> Plan
-    ensures { record { r = r.exit.now; result = result } ≡ movep_to_memory r.entry.now (view_of (map (λ x. x.now) mem.now)) op f }
+    ensures { record { r = r.new; p = result } ≡ movep_to_memory r.old (view_of (map (λ x. x.now) mem.now)) op f }
 {
     let z = 1 + op / 64 % 2;
     let q = operand::locate(r, mem, codes::DISPLACED, op % 8, z, f);

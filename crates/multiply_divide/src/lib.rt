@@ -61,7 +61,7 @@ fn product(a: i64, b: i64) -> i64
 // Cut toward zero; the remainder takes the dividend's sign.
 fn divide(a: i64, b: i64) -> Parts
     requires { (mag a < 2147483648) × (b ≡ pos 0 → ⊥) }
-    ensures value { result ≡ record { q = quot_z a b; result = rem_z a b } }
+    ensures value { result ≡ record { q = quot_z a b; r = rem_z a b } }
     ensures q_bound { (mag result.q < 9223372036854775808) × (mag result.r < 9223372036854775808) }
 {
     Parts { q: a / b, r: a % b }

@@ -52,7 +52,7 @@ fn checked(mem: &Parts, p: Plan) -> Plan
 
 // An instruction, up to its writes: all that it sees are the registers, PC, SR and the view of memory.
 fn attempt(r: &mut [u32; SLOTS], mem: &Parts, f: Flow) -> Tried
-    ensures result_value { record { r = r.exit.now; result = result } ≡ attempt r.entry.now (view_of (map (λ x. x.now) mem.now)) f }
+    ensures result_value { record { r = r.new; t = result } ≡ attempt r.old (view_of (map (λ x. x.now) mem.now)) f }
     ensures clocks_bound { result.clocks < 512 }
 {
     let w = bus::next_word(mem, f);
@@ -75,7 +75,7 @@ fn lent_attempt<'a>(
     rom: &'a [u8],
     f: Flow,
 ) -> Tried
-    ensures result_value { record { r = r.exit.now; result = result } ≡ attempt r.entry.now (seen_by (supervisor f.sr) (board_of win rom.now) mem.now) f }
+    ensures result_value { record { r = r.new; t = result } ≡ attempt r.old (seen_by (supervisor f.sr) (board_of win rom.now) mem.now) f }
     ensures clocks_bound { result.clocks < 512 }
 {
     let sup = bank::supervisor(f.sr);
@@ -85,7 +85,7 @@ fn lent_attempt<'a>(
 
 // The same from the slots, which become the registers that it leaves.
 fn begun<'a>(s: &mut [u32; SLOTS], win: Window, mem: &'a [u8], rom: &'a [u8]) -> Tried
-    ensures result_after { record { r = s.new; result = result } ≡ begun (board_of win rom.now) s.old mem.now }
+    ensures result_after { record { r = s.new; t = result } ≡ begun (board_of win rom.now) s.old mem.now }
     ensures clocks_bound { result.clocks < 512 }
 {
     let sr = s[codes::SR];

@@ -95,7 +95,7 @@ pub fn writing(z: u32, at: u32, v: u32, f: Flow) -> Plan
 
 // A result and its flags go to their places: into a register at once, and to memory as a plan.
 pub fn finish(r: &mut [u32; SLOTS], q: Operand, z: u32, a: Flagged) -> Plan
-    ensures { record { r = r.exit.now; result = result } ≡ finish r.entry.now q z a }
+    ensures { record { r = r.new; p = result } ≡ finish r.old q z a }
 {
     let kind = q.kind;
     let at = q.at;
@@ -111,7 +111,7 @@ pub fn finish(r: &mut [u32; SLOTS], q: Operand, z: u32, a: Flagged) -> Plan
 
 // A long on the stack.
 pub fn push(r: &mut [u32; SLOTS], v: u32, f: Flow) -> Plan
-    ensures { record { r = r.exit.now; result = result } ≡ push r.entry.now v f }
+    ensures { record { r = r.new; p = result } ≡ push r.old v f }
 {
     let a = bits::minus(operand::get(r, codes::A7), 4);
     operand::put(r, codes::A7, a);

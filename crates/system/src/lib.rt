@@ -47,7 +47,7 @@ pub fn immediate_to_sr(which: u32, mem: &Parts, f: Flow) -> Plan
 
 // MOVE from SR. The flags stay as they are.
 pub fn move_from_sr(r: &mut [u32; SLOTS], mem: &Parts, op: u32, f: Flow) -> Plan
-    ensures { record { r = r.exit.now; result = result } ≡ move_from_sr r.entry.now (view_of (map (λ x. x.now) mem.now)) op f }
+    ensures { record { r = r.new; p = result } ≡ move_from_sr r.old (view_of (map (λ x. x.now) mem.now)) op f }
 {
     let b = operand::modify(r, mem, op / 8 % 8, op % 8, codes::WORD, f);
     let q = b.q;
@@ -60,7 +60,7 @@ pub fn move_from_sr(r: &mut [u32; SLOTS], mem: &Parts, op: u32, f: Flow) -> Plan
 
 // MOVE to CCR.
 pub fn move_to_ccr(r: &mut [u32; SLOTS], mem: &Parts, op: u32, f: Flow) -> Plan
-    ensures { record { r = r.exit.now; result = result } ≡ move_to_ccr r.entry.now (view_of (map (λ x. x.now) mem.now)) op f }
+    ensures { record { r = r.new; p = result } ≡ move_to_ccr r.old (view_of (map (λ x. x.now) mem.now)) op f }
 {
     let w = operand::source(r, mem, op / 8 % 8, op % 8, codes::WORD, f);
     let g = w.flow;
@@ -69,7 +69,7 @@ pub fn move_to_ccr(r: &mut [u32; SLOTS], mem: &Parts, op: u32, f: Flow) -> Plan
 
 // MOVE to SR.
 pub fn move_to_sr(r: &mut [u32; SLOTS], mem: &Parts, op: u32, f: Flow) -> Plan
-    ensures { record { r = r.exit.now; result = result } ≡ move_to_sr r.entry.now (view_of (map (λ x. x.now) mem.now)) op f }
+    ensures { record { r = r.new; p = result } ≡ move_to_sr r.old (view_of (map (λ x. x.now) mem.now)) op f }
 {
     let w = operand::source(r, mem, op / 8 % 8, op % 8, codes::WORD, f);
     let g = w.flow;
@@ -78,7 +78,7 @@ pub fn move_to_sr(r: &mut [u32; SLOTS], mem: &Parts, op: u32, f: Flow) -> Plan
 
 // MOVE An,USP.
 pub fn move_to_usp(r: &mut [u32; SLOTS], op: u32, f: Flow) -> Plan
-    ensures { record { r = r.exit.now; result = result } ≡ register_moved 16 (8 + op % 8) r.entry.now f }
+    ensures { record { r = r.new; p = result } ≡ register_moved 16 (8 + op % 8) r.old f }
 {
     let a = operand::get(r, codes::A0 + op % 8);
     operand::put(r, codes::USER_STACK, a);
@@ -87,7 +87,7 @@ pub fn move_to_usp(r: &mut [u32; SLOTS], op: u32, f: Flow) -> Plan
 
 // MOVE USP,An.
 pub fn move_from_usp(r: &mut [u32; SLOTS], op: u32, f: Flow) -> Plan
-    ensures { record { r = r.exit.now; result = result } ≡ register_moved (8 + op % 8) 16 r.entry.now f }
+    ensures { record { r = r.new; p = result } ≡ register_moved (8 + op % 8) 16 r.old f }
 {
     let a = operand::get(r, codes::USER_STACK);
     operand::put(r, codes::A0 + op % 8, a);
@@ -103,7 +103,7 @@ pub fn reset_devices(f: Flow) -> Plan
 
 // RTE. The jump comes before SR is written.
 pub fn return_exception(r: &mut [u32; SLOTS], mem: &Parts, op: u32, f: Flow) -> Plan
-    ensures { record { r = r.exit.now; result = result } ≡ return_exception r.entry.now (view_of (map (λ x. x.now) mem.now)) op f }
+    ensures { record { r = r.new; p = result } ≡ return_exception r.old (view_of (map (λ x. x.now) mem.now)) op f }
 {
     let s = operand::source(
         r,
@@ -159,7 +159,7 @@ pub fn trap_overflow(f: Flow) -> Plan
 
 // CHK.
 pub fn check_bounds(r: &mut [u32; SLOTS], mem: &Parts, op: u32, f: Flow) -> Plan
-    ensures { record { r = r.exit.now; result = result } ≡ check_bounds r.entry.now (view_of (map (λ x. x.now) mem.now)) op f }
+    ensures { record { r = r.new; p = result } ≡ check_bounds r.old (view_of (map (λ x. x.now) mem.now)) op f }
 {
     let w = operand::source(r, mem, op / 8 % 8, op % 8, codes::WORD, f);
     let g = w.flow;

@@ -89,7 +89,7 @@ fn trying(
     journal: &mut [u8],
     mark: usize,
 ) -> TryAnswer
-    ensures { record { s = slots.new; m = memory.new; j = journal.new; result = result } ≡ trying (board_of win rom.now) count 0 slots.old memory.old journal.old mark }
+    ensures { record { s = slots.new; m = memory.new; j = journal.new; a = result } ≡ trying (board_of win rom.now) count 0 slots.old memory.old journal.old mark }
 {
     let mut n: u32 = 0;
     let mut at = mark;

@@ -203,7 +203,7 @@ pub fn restore_bytes(memory: &mut [u8], log: &[u64], n: usize)
 
 // Puts back what the last record says, where it is well formed.
 pub fn undo(slots: &mut [u32; SLOT_LIMIT], memory: &mut [u8], journal: &[u8], mark: usize) -> Answer
-    ensures { undo_of slots.entry.now memory.old journal.now mark ≡ record { slots = slots.exit.now; memory = memory.new; answer = result } }
+    ensures { undo_of slots.old memory.old journal.now mark ≡ record { slots = slots.new; memory = memory.new; answer = result } }
 {
     if journal.len() < mark {
         return Answer::Refused;

@@ -7,4 +7,4 @@ pub bit_changed_spec : {M : Type 1} → statement M
 unfolding bit_changed
 bit_changed_spec =
     tie.close (tie.spec
-    (λ c. search case_at) (λ c. search case_at) (λ c. search case_at) (λ c. search (case_past, c.match.rest)))
+    (λ c. search case_at) (λ c. search case_at) (λ c. search case_at) (λ c. search (case_past, c.in_default.in_default-own.rest)))

@@ -10,4 +10,4 @@ unfolding load
 load_spec =
     tie.close (tie.spec
     (λ c κs. search rules) (λ c. search rules) (λ c κs. search rules) (λ c κs. search rules) (λ c. search rules) (λ c κs. search rules)
-    (λ c. search load_register) (λ c. search case_at) (λ c. search (load_number, c.before.match.rest)))
+    (λ c. search load_register) (λ c. search case_at) (λ c. search (load_number, c.before.in_default.in_default-own.rest)))

@@ -7,4 +7,4 @@ pub by_kind_spec : {M : Type 1} → statement M
 unfolding by_kind
 by_kind_spec =
     tie.close (tie.spec
-    (λ c. search case_at) (λ c. search case_at) (λ c. search case_at) (λ c. search (case_past, c.match.rest)))
+    (λ c. search case_at) (λ c. search case_at) (λ c. search case_at) (λ c. search (case_past, c.in_default.in_default-own.rest)))

@@ -6,10 +6,10 @@ use Rattle.bits.proofs.BitsLaws.{Turns, turns_again, turns_end, turns_start}
 use Rattle.shift.proofs.places.Statement.{statement}
 use Rattle.shift.proofs.places.Tie as tie
 
-abbrev invariant_loop : tie.invariant_loop
+abbrev invariant_loop : tie.invariant-loop-i
 invariant_loop n k left z m₀ i₀ m i = Turns (one_place k left z) n i m₀ m
 
-abbrev decreases_loop : tie.decreases_loop
+abbrev decreases_loop : tie.decreases-loop-i
 decreases_loop n k left z m₀ i₀ m i = n - i
 
 pub places_spec : {M : Type 1} → statement M
