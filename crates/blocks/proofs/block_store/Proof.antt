@@ -13,7 +13,7 @@ store_whole_requires c κs =
     let s = f.before.before.before in
     let z = s.args in
     let w = f.put_way-w.ensures in
-    (s.requires, whole_taken z.memory-1.now z.log-1.now z.n z.p _ _ _ w f.fits2.ensures a.above.ensures t)
+    (s.requires, whole_taken z.memory.now z.log.now z.n z.p _ _ _ w a.fits.ensures a.above.ensures t)
 
 pub block_store_spec : {M : Type 1} → statement M
 block_store_spec =

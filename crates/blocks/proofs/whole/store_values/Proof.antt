@@ -28,7 +28,7 @@ module _ (k : tie.After-skipped-e invariant_loop decreases_loop) where
   some = omega (arith, turn.loop-d-test.true)
 
   index : k.skipped-e.result.index < 16
-  index = whole_index _ _ _ _ _ _ s.pre.1.0 s.pre.0.1 _ _ _ _ turn.before.before.loop-d.inv some _ k.skipped-e.ensures
+  index = whole_index _ _ _ _ _ _ s.requires.1.0 s.requires.0.1 _ _ _ _ turn.before.before.loop-d.invariant some _ k.skipped-e.ensures
 
 array_read : tie.Need-bounds-t-i invariant_loop decreases_loop
 array_read c =
@@ -50,15 +50,15 @@ of_turn c = c.before.before.before.before.before.before.before.before.before.bef
 loop_less : tie.Need-loop-d-smaller invariant_loop decreases_loop
 loop_less c =
     let k = of_turn c in
-    let i = (turn k).before.before.loop-d.inv in
-    whole_less _ _ _ _ _ _ (s k).pre.1.0 (s k).pre.0.1 _ _ _ _ i (some k) _ k.skipped-e.ensures _ c.passed-d.ensures
+    let i = (turn k).before.before.loop-d.invariant in
+    whole_less _ _ _ _ _ _ (s k).requires.1.0 (s k).requires.0.1 _ _ _ _ i (some k) _ k.skipped-e.ensures _ c.passed-d.ensures
 
 loop_again : tie.Need-loop-d-preserved invariant_loop decreases_loop
 loop_again c =
     let k = of_turn c in
-    let i = (turn k).before.before.loop-d.inv in
+    let i = (turn k).before.before.loop-d.invariant in
     let g = c.before.before.before.before.before.sized_above-m.ensures in
-    whole_again _ _ _ _ _ _ (s k).pre.1.0 (s k).pre.0.1 _ _ _ _ i (some k) _ k.skipped-e.ensures
+    whole_again _ _ _ _ _ _ (s k).requires.1.0 (s k).requires.0.1 _ _ _ _ i (some k) _ k.skipped-e.ensures
     _ _ _ _ c.passed-d.ensures g.0 g.1.1.0 g.1.1.1
 
 returns : tie.Need-returns invariant_loop decreases_loop
