@@ -25,12 +25,12 @@ returns_4 c = passed c.before.before (refuse_by _ _ _ _ _ c.before.no_room-full.
 returns_5 : tie.Need-returns-then-halted
 returns_5 c =
     let d = c.before.before in
-    passed d.before.before (pass_by _ _ _ _ _ d.before.no_room-full.ensures d.if-full.false (refuse _ _ _ _ c.if-halted.true-raw refl))
+    passed d.before.before.before (pass_by _ _ _ _ _ d.no_room-full.ensures d.if-full.false (refuse _ _ _ _ c.if-halted.true-raw refl))
 
 returns_6 : tie.Need-returns
 returns_6 c =
     let d = c.before.before in
-    passed d.before.before (pass_by _ _ _ _ _ d.before.no_room-full.ensures d.if-full.false (pass _ _ _ _ c.if-halted.false-raw refl))
+    passed d.before.before.before (pass_by _ _ _ _ _ d.no_room-full.ensures d.if-full.false (pass _ _ _ _ c.if-halted.false-raw refl))
 
 pub step_number_spec : {M : Type 1} → statement M
 unfolding step_tests

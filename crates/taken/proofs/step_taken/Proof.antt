@@ -22,13 +22,13 @@ one_step_requires c κs =
 
 put_record_requires : tie.Need-put_record-next-requires
 put_record_requires c κs =
-    let o = c.before.before.before.before.before.before.before.before.before in
+    let o = c.before.before.before.before.before.before in
     let e = o.one_step-e.ensures in
     (log_done _ _ _ _ _ e.1.1.1.0, record_fits _ _ _ (z o).args.journal.now _ _ _ _ (valid o) (z o).requires.1 _ _ _ _ _ _ e)
 
 returns : tie.Need-returns
 returns c =
-    let o = c.before.before.before.before.before.before.before.before.before.before.before.before in
+    let o = c.before.before.before.before.before.before.before.before.before in
     taken _ _ _ _ _ _ _ _ (valid o) (z o).requires.1 _ _ _ _ _ _ o.one_step-e.ensures _ _ c.before.before.put_record-next.ensures
 
 pub step_taken_spec : {M : Type 1} → statement M
