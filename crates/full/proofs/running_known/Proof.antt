@@ -44,7 +44,7 @@ add_note_post c =
     let j = c.before.before.before.before.before in
     let l = c.before.before.before.before.before.before.before.before.before.before.before.before.before.before.before.before.before in
     let z = c.before.before.before.before.before.before.before.before.before.before.before.before.before.before.before.before.before.before.before.before.before.before.before.before.before.before in
-    record { fits = going_post l.loop-win.invariant _ _ _ j.before.room_known-r.ensures j.journal.given (small z) }
+    record { fits = going_post l.loop-win.invariant _ _ _ j.before.room_known-r.ensures j.journal-1.given (small z) }
 
 note_post_requires : tie.Need-note_post-requires invariant_loop decreases_loop
 note_post_requires c κs =
@@ -56,7 +56,7 @@ step_taken_requires : tie.Need-step_taken-a-requires invariant_loop decreases_lo
 step_taken_requires c κs =
     let j = c.before.before.before.before.before.before.before.before.before.before.before.before in
     let l = c.before.before.before.before.before.before.before.before.before.before.before.before.before.before.before.before.before.before.before.before.before.before.before.before in
-    going_step l.loop-win.invariant _ _ _ j.before.room_known-r.ensures j.journal.given
+    going_step l.loop-win.invariant _ _ _ j.before.room_known-r.ensures j.journal-1.given
 
 add_n : tie.Need-overflow_add-n invariant_loop decreases_loop
 add_n c = let d = c.before.before.before.before.before.before.before.before.before.before.before.before.before.before.before.before.before.before.before.before.before.before.before.before.before.before.before.before.before.before in record { fits = going_one d.before.loop-win.invariant d.if-spent.false-raw }
@@ -69,14 +69,14 @@ add_c c =
     let t = c.before.before.before.before.before.before.before in
     let j = c.before.before.before.before.before.before.before.before.before.before.before.before.before.before.before.before.before.before.before.before in
     let d = c.before.before.before.before.before.before.before.before.before.before.before.before.before.before.before.before.before.before.before.before.before.before.before.before.before.before.before.before.before.before.before in
-    record { fits = going_sum d.before.loop-win.invariant _ _ _ j.before.room_known-r.ensures j.journal.given d.if-spent.false-raw _ t.step_taken-a.ensures.1.1.1.0 }
+    record { fits = going_sum d.before.loop-win.invariant _ _ _ j.before.room_known-r.ensures j.journal-1.given d.if-spent.false-raw _ t.step_taken-a.ensures.1.1.1.0 }
 
 add_dropped : tie.Need-overflow_add-dropped invariant_loop decreases_loop
 add_dropped c =
     let j = c.before.before.before.before.before.before.before.before.before.before.before.before.before.before.before.before.before.before.before.before.before in
     let l = c.before.before.before.before.before.before.before.before.before.before.before.before.before.before.before.before.before.before.before.before.before.before.before.before.before.before.before.before.before.before.before.before.before in
     let z = c.before.before.before.before.before.before.before.before.before.before.before.before.before.before.before.before.before.before.before.before.before.before.before.before.before.before.before.before.before.before.before.before.before.before.before.before.before.before.before.before.before.before in
-    record { fits = going_dropped l.loop-win.invariant _ _ _ j.before.room_known-r.ensures j.journal.given (small z) }
+    record { fits = going_dropped l.loop-win.invariant _ _ _ j.before.room_known-r.ensures j.journal-1.given (small z) }
 
 loop_again : tie.Need-loop-win-preserved invariant_loop decreases_loop
 loop_again c =
@@ -84,12 +84,8 @@ loop_again c =
     let o = c.before.before.before.before.before.before.before.before.before.before.before.before.before.before.before in
     let n = c.before.before.before.before.before.before.before.before.before.before.before.before.before.before.before.before.before.before.before in
     let j = n.before.before in
-    let d₄ = c.before.before.before.before.before.before.before.before.before.before.before.before.before.before.before.before.before.before.before.before.before.before.before.before.before.before in
-    let d₃ = d₄.before.before in
-    let d₂ = d₃.before.before in
-    let d₁ = d₂.before.before in
-    going_again d₁.before.loop-win.invariant _ _ _ j.before.room_known-r.ensures j.journal.given d₁.if-spent.false-raw d₂.if-halted.false-raw d₃.if-stopped.false-raw d₄.if-there.false-raw
-    _ _ _ _ _ e.0 e.1.0 e.1.1.0 e.1.1.1.0 _ c.add_moved-moved.ensures _ _ o.note_post.ensures n.near.given e.1.1.1.1.same_log
+    going_again c.loop-win.invariant _ _ _ j.before.room_known-r.ensures j.journal-1.given c.if-spent.false-raw c.if-halted.false-raw c.if-stopped.false-raw c.if-there.false-raw
+    _ _ _ _ _ e.0 e.1.0 e.1.1.0 e.1.1.1.0 _ c.add_moved-moved.ensures _ _ o.note_post.ensures n.near-1.given e.1.1.1.1.same_log
 
 turn_back_requires : tie.Need-turn_back-requires invariant_loop decreases_loop
 turn_back_requires c κs = let g = c.before.before.loop-win.invariant in (g.turn.low, g.top)
@@ -98,13 +94,13 @@ turn_back_requires c κs = let g = c.before.before.loop-win.invariant in (g.turn
 reached : (d : tie.Joined-spent invariant_loop decreases_loop) → Gives d.before.loop-win.invariant d.if-spent.reason
 reached d =
     let g = d.before.loop-win.invariant in
-    either_of d.if-spent.branch
-    (λ x. at_reason g 1 _ x.1 (going_spent g x.0.taken))
+    either_of d.if-spent.branch-raw
+    (λ x. at_reason g 1 _ x.reason-is (going_spent g x.if-spent.true-raw))
     (λ y. either_of y
-    (λ x. at_reason g 2 _ x.3 (going_halted g x.0.left x.2.taken))
+    (λ x. at_reason g 2 _ x.reason-is (going_halted g x.if-spent.false-raw x.if-halted.true-raw))
     (λ y. either_of y
-    (λ x. at_reason g 3 _ x.5 (going_stopped g x.0.left x.2.left x.4.taken))
-    (λ x. at_reason g 5 _ x.7 (going_there g x.0.left x.2.left x.4.left x.6.taken))))
+    (λ x. at_reason g 3 _ x.reason-is (going_stopped g x.if-spent.false-raw x.if-halted.false-raw x.if-stopped.true-raw))
+    (λ x. at_reason g 5 _ x.reason-is (going_there g x.if-spent.false-raw x.if-halted.false-raw x.if-stopped.false-raw x.if-there.true-raw))))
 
 returns : tie.Need-returns invariant_loop decreases_loop
 returns c = reached c.before.before.before.before _ c.before.before.turn_back.ensures
