@@ -13,7 +13,7 @@ module _ (o : tie.After-one-step) where
   valid =
       let b = o.before.before.before.before.before.before in
       let t = b.before.before.twenty.ensures in
-      valid_lent _ _ t.0 t.1 b.bytes.ensures.1 z.pre.0 z.pre.3
+      valid_lent _ _ t.0 t.1 b.bytes.ensures.1 z.requires.0 z.requires.3
 
 one_step_requires : tie.Need-one-step-requires
 one_step_requires c κs =
