@@ -47,18 +47,17 @@ left() { # CRATES..
     echo "$many"
 }
 
-# Reads what `rt` says, and its exit status after it: keeps it in the log, and tells each crate as its turn comes.
+# Reads what `rt` says, and its exit status after it: keeps it in the log, and tells each crate as its turn comes. Where a program runs it
+# is proved, and what comes then, the status too, is the program's.
 tell() { # LOG CRATES..
-    log=$1 status=2
+    log=$1 status=2 runs=''
     shift
     : >"$log"
     while IFS= read -r line; do
-        case $line in
-        "exit status "*)
-            status=${line##* }
-            continue
-            ;;
+        case $runs$line in
+        "exit status "*) status=${line##* } ;;
         "rt: chose --jobs "*" for "*) say "proving ${line##* }, $(left "$@") left" ;;
+        "rt: running out/"*) runs=/ status=0 ;;
         esac
         printf '%s\n' "$line" >>"$log"
     done
@@ -74,8 +73,7 @@ prove() { # COMMAND CRATE
     log=$folder/out/$command.log
     if ! {
         case $command in
-        # The stamp stands where the build is proved: the status may be that of the program.
-        run) (cd "$folder" && rt run 2>&1 >/dev/null </dev/null); [ -s "$folder/out/$crate.stamp" ] ;;
+        run) (cd "$folder" && rt run 2>&1 >/dev/null </dev/null) ;;
         *) (cd "$folder" && rt "$command" 2>&1 </dev/null) ;;
         esac
         echo "exit status $?"
