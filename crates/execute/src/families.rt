@@ -29,7 +29,7 @@ pub fn refused(vec: u32, f: Flow) -> Plan
 // Illegal, and words that begin 1010 and 1111.
 pub fn refused_kind(j: u32, r: &[u32; SLOTS], mem: &Parts, op: u32, f: Flow) -> Timed
     requires { j < 3 }
-    ensures plan_value { record { r = r.old; p = result.plan } ≡ refused_kind j r.old (view_of (map (λ x. x.now) mem.now)) op f }
+    ensures plan_value { record { r = r.now; p = result.plan } ≡ refused_kind j r.now (view_of (map (λ x. x.now) mem.now)) op f }
     ensures clocks_value { result.clocks ≡ clocks (Illegal + j) r.now (view_of (map (λ x. x.now) mem.now)) op f }
 {
     match j {

@@ -146,7 +146,7 @@ fn put_in(
 ) -> usize
     requires ns_in_bounds { (ns ≤ length slots.now) × (ns ≤ slot_limit) × (i ≤ n) × (n ≤ length bytes.now) × (n ≤ byte_limit) }
     requires bytes_in_bounds { length (record_in form (record { slots = changes slots.now ns; bytes = between i n bytes.now })) ≤ length out.old }
-    ensures { BytesPut out.old 0 (record_in form (record { slots = changes slots.old ns; bytes = between i n bytes.now })) out.new result }
+    ensures { BytesPut out.old 0 (record_in form (record { slots = changes slots.now ns; bytes = between i n bytes.now })) out.new result }
 {
     let a = put_changes(out, 0, slots, 0, ns);
     let b = put_part(form, out, a.at, bytes, i, n);

@@ -1,7 +1,7 @@
 -- PlaceLaws.antt - the table as the code's `match` has it: an arm for each entry among the eight places of a line and of bits 8 to 6.
 -- States: entry_at_place, entry_past: what one arm gives, and what the `_` gives.
 -- Uses: bits, decode, Table.  Source: [ours].
-use mathlib.Core.Path.{◌≡◌, refl, sym, subst}
+use mathlib.Core.Path.{◌≡◌, refl, sym, subst, ap}
 use mathlib.Core.Bool.{Bool, true, false, not}
 use mathlib.Core.List.{List, [], ◌∷◌}
 use mathlib.Core.Logic.{◌⊎◌, inl, inr, ⊎_elim}
@@ -60,18 +60,24 @@ kept_rest true i [] h x = absurd x
 kept_rest true i (j ∷ is) h x = inr x
 kept_rest false i is h x = x
 
-places_have : (g r n j : ℕ) → j < n → OneOf (places (entry_at (place g (r + j))) g r n) (place g (r + j))
+places_begin : (v g r n k : ℕ) → k ≡ r → v ≡ entry_at (place g r) → OneOf (places v g r (suc n)) (place g k)
 unfolding places
+places_begin v g r n k z q =
+    rw (z, eq-eqb (entry_at (place g r)) v (sym q)) (one_of_own (place g r) (places v g (suc r) n))
+
+places_more : (v g r n k : ℕ) → OneOf (places v g (suc r) n) (place g k) → OneOf (places v g r (suc n)) (place g k)
+unfolding places
+places_more v g r n k x = kept_rest (eqb (entry_at (place g r)) v) (place g r) (places v g (suc r) n) (place g k) x
+
+places_have : (g r n j : ℕ) → j < n → OneOf (places (entry_at (place g (r + j))) g r n) (place g (r + j))
 places_have g r zero j l = absurd (omega arith)
 places_have g r (suc n) zero l =
     let z : r + 0 ≡ r = omega arith in
-    let e = entry_at (place g r) in
-    rw (z, eq-eqb e e refl) (one_of_own (place g r) (places e g (suc r) n))
+    places_begin _ g r n (r + 0) z (ap (λ k. entry_at (place g k)) z)
 places_have g r (suc n) (suc j) l =
-    let z : r + suc j ≡ suc r + j = omega arith in
-    let e = entry_at (place g (suc r + j)) in
-    rw z (kept_rest (eqb (entry_at (place g r)) e) (place g r) (places e g (suc r) n) (place g (suc r + j))
-    (places_have g (suc r) n j (omega arith)))
+    let z : suc r + j ≡ r + suc j = omega arith in
+    subst (λ k. OneOf (places (entry_at (place g k)) g r (suc n)) (place g k)) z
+    (places_more _ g r n (suc r + j) (places_have g (suc r) n j (omega arith)))
 
 -- the entries of g's places, n of them from r on, each once: those that are new beside the ones seen
 unfoldable news : ℕ → ℕ → ℕ → List ℕ → List ℕ

@@ -141,7 +141,7 @@ pub fn loaded(a: u8, b: u8, mem: &Parts, op: u32, f: Flow) -> u32
 
 // The word that MULS and MULU take, read once more: these are rare.
 fn factor(r: &[u32; SLOTS], mem: &Parts, op: u32, f: Flow) -> u32
-    ensures* x_value { λ x. ⌜ x ≡ factor r.now (view_of (map (λ x. x.now) mem.now)) op f ⌝ }
+    ensures value { result ≡ factor r.now (view_of (map (λ x. x.now) mem.now)) op f }
     ensures upper_bound { result < 65536 }
 {
     let q = operand::locate(r, mem, op / 8 % 8, op % 8, codes::WORD, f);

@@ -8,4 +8,4 @@ pub quotient_by_spec : {M : Type 1} → statement M
 unfolding quotient_by
 quotient_by_spec =
     tie.close (tie.spec
-    (λ c κs. search rules) (λ c κs. search rules) (λ c. search case_at) (λ c. search (case_past, c.before.match.rest)))
+    (λ c κs. search rules) (λ c κs. search rules) (λ c. search case_at) (λ c. search (case_past, c.before.in_default.in_default-own.rest)))

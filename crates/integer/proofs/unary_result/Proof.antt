@@ -10,4 +10,4 @@ unary_result_spec =
     tie.close (tie.spec
     (λ c κs. search rules) (λ c κs. search rules) (λ c κs. search rules) (λ c κs. search rules) (λ c κs. search rules) (λ c κs. search rules)
     (λ c κs. search rules) (λ c. search case_at) (λ c. search case_at) (λ c. search case_at) (λ c. search case_at) (λ c. search case_at)
-    (λ c. search case_at) (λ c. search (case_past, c.before.match.rest)))
+    (λ c. search case_at) (λ c. search (case_past, c.before.in_default.in_default-own.rest)))

@@ -6,10 +6,10 @@ use Rattle.movem.proofs.MovemLaws.{walk, walk_end}
 use Rattle.movem.proofs.load_list.Statement.{statement}
 use Rattle.movem.proofs.load_list.Tie as tie
 
-abbrev invariant_loop : tie.invariant_loop
+abbrev invariant_loop : tie.invariant-loop-j
 invariant_loop r₀ mem k w d₀ j₀ r d j = Turns (load_one (view_of (map (λ x. x.now) mem)) k w) 16 j (walk r₀ d₀) (walk r d)
 
-abbrev decreases_loop : tie.decreases_loop
+abbrev decreases_loop : tie.decreases-loop-j
 decreases_loop r₀ mem k w d₀ j₀ r d j = 16 - j
 
 pub load_list_spec : {M : Type 1} → statement M

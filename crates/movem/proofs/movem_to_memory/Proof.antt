@@ -4,10 +4,10 @@ use Rattle.movem.proofs.movem_to_memory.Statement.{statement}
 use Rattle.movem.proofs.movem_to_memory.Tie as tie
 
 -- `search` gives up on the loans of the context: the facts are named
-returns_2 : tie.Need-returns-2
+returns_2 : tie.Need-returns
 returns_2 c =
     let l = c.before.before.before in
-    upward _ _ _ _ _ _ l.before.before.before.before.next_word.ensures.0 _ l.before.before.if1.false l.locate.ensures c.writing.ensures
+    upward _ _ _ _ _ _ l.before.before.before.next_word-l.ensures.0 _ l.before.if-down.false-raw l.locate-q.ensures c.writing.ensures
 
 pub movem_to_memory_spec : {M : Type 1} → statement M
 movem_to_memory_spec =

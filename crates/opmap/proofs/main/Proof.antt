@@ -2,10 +2,10 @@ use Rattle.std.proofs.Common.{◌-◌, ◌≤◌, arith, rules}
 use Rattle.opmap.proofs.main.Statement.{statement}
 use Rattle.opmap.proofs.main.Tie as tie
 
-abbrev invariant_loop : tie.invariant_loop
+abbrev invariant_loop : tie.invariant-loop-op
 invariant_loop first₀ op₀ first op = op ≤ 65536
 
-abbrev decreases_loop : tie.decreases_loop
+abbrev decreases_loop : tie.decreases-loop-op
 decreases_loop first₀ op₀ first op = 65536 - op
 
 pub main_spec : {M : Type 1} → statement M

@@ -7,4 +7,4 @@ pub bit_spec : {M : Type 1} → statement M
 bit_spec =
     tie.close (tie.spec
     (λ c. search rules) (λ c. search rules) (λ c. search rules) (λ c. search rules) (λ c. search rules) (λ c. search rules) (λ c. search rules)
-    (λ c. search rules) (λ c. search (case_past, c.match.rest)))
+    (λ c. search rules) (λ c. search (case_past, c.in_default.in_default-own.rest)))

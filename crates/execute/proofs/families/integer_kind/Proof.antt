@@ -32,4 +32,4 @@ integer_kind_spec =
     (λ c. (search arm_plan, search arm_clocks)) (λ c. (search arm_plan, search arm_clocks)) (λ c. (search arm_plan, search arm_clocks))
     (λ c. (search arm_plan, search arm_clocks)) (λ c. (search arm_plan, search arm_clocks)) (λ c. (search arm_plan, search arm_clocks))
     (λ c. (search arm_plan, search arm_clocks)) (λ c. (search arm_plan, search arm_clocks))
-    (λ c. (search (last_plan, c.before.before.before.before.match.rest), search (last_clocks 27, c.before.before.before.before.match.rest))))
+    (λ c. (search (last_plan, c.before.before.before.before.in_default.in_default-own.rest), search (last_clocks 27, c.before.before.before.before.in_default.in_default-own.rest))))

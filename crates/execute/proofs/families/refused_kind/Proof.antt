@@ -12,4 +12,4 @@ refused_kind_spec =
     tie.close (tie.spec
     (λ c κs. search rules) (λ c κs. search rules) (λ c κs. search rules) (λ c κs. search rules) (λ c κs. search rules) (λ c κs. search rules)
     (λ c. (search (arm_plan, kept), search arm_clocks)) (λ c. (search (arm_plan, kept), search arm_clocks))
-    (λ c. (search (last_plan, kept, c.before.before.match.rest), search (last_clocks 2, c.before.before.match.rest))))
+    (λ c. (search (last_plan, kept, c.before.before.in_default.in_default-own.rest), search (last_clocks 2, c.before.before.in_default.in_default-own.rest))))

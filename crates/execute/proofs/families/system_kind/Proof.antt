@@ -24,4 +24,4 @@ system_kind_spec =
     (λ c. (search (arm_plan, kept), search arm_clocks)) (λ c. (search arm_plan, search arm_clocks))
     (λ c. (search (arm_plan, kept), search arm_clocks)) (λ c. (search (arm_plan, kept), search arm_clocks))
     (λ c. (search (arm_plan, kept), search arm_clocks))
-    (λ c. (search (last_plan, c.before.before.before.before.match.rest), search (past_clocks, c.before.before.before.before.match.rest))))
+    (λ c. (search (last_plan, c.before.before.before.before.in_default.in_default-own.rest), search (past_clocks, c.before.before.before.before.in_default.in_default-own.rest))))

@@ -54,4 +54,4 @@ entry_spec =
     (λ c. search (entry_at_place 115)) (λ c. search (entry_at_place 116)) (λ c. search (entry_at_place 117)) (λ c. search (entry_at_place 118))
     (λ c. search (entry_at_place 119)) (λ c. search (entry_at_place 119)) (λ c. search (entry_at_place 120)) (λ c. search (entry_at_place 121))
     (λ c. search (entry_at_place 122)) (λ c. search (entry_at_place 123)) (λ c. search (entry_at_place 124)) (λ c. search (entry_at_place 125))
-    (λ c. search (entry_at_place 126)) (λ c. search (entry_at_place 127)) (λ c. entry_past c.before.args.h c.match.rest))
+    (λ c. search (entry_at_place 126)) (λ c. search (entry_at_place 127)) (λ c. entry_past c.before.args.h c.in_default.in_default-own.rest))

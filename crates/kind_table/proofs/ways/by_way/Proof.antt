@@ -32,4 +32,4 @@ by_way_spec =
     (λ c. search way_arm) (λ c. search way_arm) (λ c. search way_arm) (λ c. search way_arm) (λ c. search way_arm) (λ c. search way_arm)
     (λ c. search way_arm) (λ c. search way_arm) (λ c. search way_arm) (λ c. search way_arm) (λ c. search way_arm) (λ c. search way_arm)
     (λ c. search way_arm) (λ c. search way_arm) (λ c. search way_arm) (λ c. search way_arm) (λ c. search way_arm) (λ c. search way_arm)
-    (λ c. search way_arm) (λ c. search (way_last, c.before.match.rest)))
+    (λ c. search way_arm) (λ c. search (way_last, c.before.in_default.in_default-own.rest)))
