@@ -1,66 +1,89 @@
 // lib.rt - what programs for a person share: text and numbers on standard output and error, what an input still has, slots by name.
 // Means: nothing; proved safe. Addresses have six digits or more of base 16, bytes two.
-// Uses: codes, io, libc.  Source: [ours].
+// Uses: codes.  Source: [ours].
+#![tactic(auto)]
+
 pub mod slots;
 
-use libc::{STDERR_FILENO, STDIN_FILENO, STDOUT_FILENO};
+ghost use Rattle.std.specs.Prelude.{◌≤◌, length, IfOk};
+
+use std::io;
+use std::io::Read;
 
 // ---- standard output
 
-pub fn text(t: &[u8]) {
-    io::write_all(STDOUT_FILENO, t);
+pub fn text(rt: &impl Print, t: &[u8]) -> io::Result<()> {
+    rt.write_all(t)
 }
 
-pub fn decimal(n: u64) {
-    io::print_decimal(STDOUT_FILENO, n);
+pub fn decimal(rt: &impl Print, n: u64) -> io::Result<()> {
+    rt.print(n)
 }
 
-pub fn hex(n: u64, width: usize) {
-    io::print_hex(STDOUT_FILENO, n, width);
+// In base 16, with zeros in front up to width digits; a width of 0 counts as 1, and one above 16 as 16.
+pub fn hex(rt: &impl Print, n: u64, width: usize) -> io::Result<()> {
+    let digits = width.min(16);
+    print!(rt; "{n:0digits$x}")
 }
 
-pub fn address(a: u32) {
-    hex(a as u64, 6);
+pub fn address(rt: &impl Print, a: u32) -> io::Result<()> {
+    hex(rt, a as u64, 6)
 }
 
-pub fn place(i: usize) {
-    hex(i as u64, 6);
+pub fn place(rt: &impl Print, i: usize) -> io::Result<()> {
+    hex(rt, i as u64, 6)
 }
 
-pub fn byte(b: u8) {
-    text(b" ");
-    hex(b as u64, 2);
+pub fn byte(rt: &impl Print, b: u8) -> io::Result<()> {
+    text(rt, b" ")?;
+    hex(rt, b as u64, 2)
 }
 
 // So many of something, whose name here has no s at its end.
-pub fn counted(n: u64, name: &[u8]) {
-    decimal(n);
-    text(b" ");
-    text(name);
+pub fn counted(rt: &impl Print, n: u64, name: &[u8]) -> io::Result<()> {
+    decimal(rt, n)?;
+    text(rt, b" ")?;
+    text(rt, name)?;
     if n != 1 {
-        text(b"s");
+        text(rt, b"s")?;
     }
+    Ok(())
 }
 
 // ---- standard error
 
-pub fn complain(what: &[u8]) {
-    io::write_all(STDERR_FILENO, what);
+pub fn complain(rt: &HostRuntime, what: &[u8]) -> io::Result<()> {
+    rt.stderr().write_all(what)
 }
 
-pub fn complain_number(n: u64) {
-    io::print_decimal(STDERR_FILENO, n);
+pub fn complain_number(rt: &HostRuntime, n: u64) -> io::Result<()> {
+    rt.stderr().print(n)
 }
 
 // ---- input
 
+// Reads until buf is full or the input ends, and answers how many bytes it put at the start of buf.
+pub fn read_full(input: &mut impl Read, buf: &mut [u8]) -> io::Result<usize>
+    ensures { IfOk result (λ n. n ≤ length buf.new) }
+{
+    let mut done = 0;
+    while done < buf.len() {
+        let n = input.read(&mut buf[done..])?;
+        if n == 0 {
+            break;
+        }
+        done += n;
+    }
+    Ok(done)
+}
+
 // Whether a file has a byte more, which is then read.
-pub fn file_has_more(file: i32) -> bool {
+pub fn file_has_more(file: &mut impl Read) -> io::Result<bool> {
     let mut more = [0u8; 1];
-    io::read_full(file, &mut more) != 0
+    Ok(read_full(file, &mut more)? != 0)
 }
 
 // Whether standard input has.
-pub fn has_more() -> bool {
-    file_has_more(STDIN_FILENO)
+pub fn has_more(rt: &impl Input) -> io::Result<bool> {
+    file_has_more(&mut rt.reader())
 }

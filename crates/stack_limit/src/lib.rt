@@ -1,7 +1,12 @@
 // lib.rt - how much stack a program may use, as the system tells it.
 // Means: nothing; proved safe.
-// Uses: os, io, libc.  Source: [ours]; the file is Linux's table of a process's limits.
+// Uses: nothing.  Source: [ours]; the file is Linux's table of a process's limits.
+#![tactic(auto)]
+
 ghost use Rattle.std.specs.Prelude.{◌≤◌, length};
+
+use std::fs;
+use std::rt::Files;
 
 // bytes for two memories of 16 MiB and all else, with room to spare
 const LARGE: u64 = 67108864;
@@ -72,14 +77,10 @@ fn limit_in(text: &[u8], word: &[u8]) -> u64 {
     l.value
 }
 
-// Whether the stack is known to be large. Where there is no limit an emulator may give a small one: then no.
-pub fn is_large() -> bool {
-    let limits = os::open_read(b"/proc/self/limits");
-    if limits < 0 {
-        return false;
+// Whether the stack is known to be large: not where the limits can not be read. Where there is no limit an emulator may give a small one: then no.
+pub fn is_large(rt: &(impl Files + Alloc)) -> bool {
+    match fs::read(rt, "/proc/self/limits") {
+        Ok(text) => LARGE <= limit_in(&text, b"Max stack size"),
+        Err(_) => false,
     }
-    let mut text = io::buffer();
-    let n = io::read_full(limits, &mut text);
-    libc::close(limits);
-    LARGE <= limit_in(&text[..n], b"Max stack size")
 }
