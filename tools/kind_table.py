@@ -15,13 +15,14 @@ CODE = """// table.rt - the table of 1,024 entries, chosen by the word divided b
 // Uses: decode.  Source: [K9].
 // A `match` is kept as data, and costs no copy. No two places of an arm are neighbours: of such the kit makes a range, which is tested and
 // not looked up (docs/DECISIONS.md D98).
-ghost use mathlib.Core.Path.{_≡_};
-ghost use Rattle·kind_table·specs.specs.Table.{entry-at};
+ghost use Rattle.std.specs.Prelude.{◌≡◌};
+ghost use Rattle.kind_table.specs.Table.{entry_at};
+
 use decode::kinds;
 
 // The entry of a word's upper ten bits.
 pub fn entry(h: u32) -> u32
-    ensures { λ e. ⌜ e ≡ entry-at h ⌝ }
+    ensures { result ≡ entry_at h }
 {
     match h {
 %s
@@ -30,14 +31,14 @@ pub fn entry(h: u32) -> u32
 }
 """
 
-PROOF = """use Rattle·kind_table·specs.specs.Table.{entries, entry-at}
-use Rattle·kind_table·proofs.proofs.PlaceLaws.{places, arms, entry-at-place, entry-past}
-use Rattle·kind_table·proofs.proofs.table.entry.Statement.{statement}
-use Rattle·kind_table·proofs.proofs.table.entry.Tie as tie
+PROOF = """use Rattle.kind_table.specs.Table.{entries, entry_at}
+use Rattle.kind_table.proofs.PlaceLaws.{places, arms, entry_at_place, entry_past}
+use Rattle.kind_table.proofs.table.entry.Statement.{statement}
+use Rattle.kind_table.proofs.table.entry.Tie as tie
 
-pub entry-spec : {M : Type 1} → statement M
-unfolding places entries entry-at arms
-entry-spec =
+pub entry_spec : {M : Type 1} → statement M
+unfolding places entries entry_at arms
+entry_spec =
     tie.close (tie.spec
 %s)
 """
@@ -73,7 +74,7 @@ for group in range(len(entries) // GROUP):
     for entry in dict.fromkeys(entries[h] for h in places):
         told = "kinds::" + kinds[entry] if entry < DECIDE else str(entry)
         arms.append("        " + " | ".join(str(h) for h in places if entries[h] == entry) + f" => {told},")
-        answers.append(f"(λ c. search (entry-at-place {group}))")
-answers.append("(λ c. entry-past (c .before .args .h) (c .match .rest))")
+        answers.append(f"(λ c. search (entry_at_place {group}))")
+answers.append("(λ c. entry_past c.before.args.h c.in_default.in_default-own.rest)")
 write(CODE % "\n".join(arms), "kind_table", "src", "table.rt")
 write(PROOF % "\n".join("    " + row for row in rows(answers, ANSWERS, " ")), "kind_table", "proofs", "table", "entry", "Proof.antt")

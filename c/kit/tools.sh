@@ -5,16 +5,15 @@
 say() { printf '%s: %s\n' "$name" "$*" >&2; }
 
 command -v rt >/dev/null || { say "rt, the command of the Rattle kit, is not on the PATH"; exit 2; }
-own=${RATTLE_HOME:-$(dirname "$(readlink -f "$(command -v rt)")")/..}/on/$(uname -m)
-tools=$own/toolchain
-emulator=$tools/bin/qemu-x86_64
-[ -x "$emulator" ] || emulator=''
+kit=$(dirname "$(dirname "$(readlink -f "$(command -v rt)")")")
+tools=$kit/toolchain
+[ "$(uname -m)" = x86_64 ] || { say "the Rattle kit, and what it builds here, is for x86-64"; exit 2; }
 
 # The crates that a crate stands on, and itself: each uses only crates above it in crates.txt.
 stands_on() { # CRATE
     awk -v wanted="$1" '
         /^#/ || NF == 0 { next }
-        { name = $0; sub(/:.*/, "", name); order[++n] = name; uses[name] = substr($0, length(name) + 2) }
+        { name = $1; sub(/:.*/, "", name); order[++n] = name; uses[name] = $0; sub(/^[^:]*:?/, "", uses[name]) }
         END {
             needed[wanted] = 1
             for (i = n; i > 0; i--) {
@@ -26,48 +25,61 @@ stands_on() { # CRATE
         }' "$root/crates.txt"
 }
 
-# Tells the first of the crates that are left and were never proved, and how many are left.
-tell_next() { # CRATES..
-    for crate in "$@"; do
-        [ -e "$root/target/stamp/$crate" ] || { say "proving $crate, $# left"; return; }
-    done
+# One sum of all that a crate is made from: its files and those of the crates below, crates.txt, and the kit.
+made_from() { # CRATE
+    (
+        cd "$root" || exit 2
+        {
+            cat crates.txt "$kit/KIT-ID" "$kit/WHAT"
+            for crate in $(stands_on "$1"); do
+                find "crates/$crate/src" "crates/$crate/specs" "crates/$crate/proofs" -type f 2>/dev/null | LC_ALL=C sort
+            done | tr '\n' '\0' | xargs -0 sha256sum
+        } | sha256sum
+    )
 }
 
-# Reads what `rt check` says, and its exit status after it: keeps it in the log, and tells each crate as its turn comes.
+# How many of the crates have no library yet, which the last one, a program or a static library, never has.
+left() { # CRATES..
+    many=0
+    for crate in "$@"; do
+        [ -e "$root/crates/$crate/out/rlib/stamp" ] || many=$((many + 1))
+    done
+    echo "$many"
+}
+
+# Reads what `rt` says, and its exit status after it: keeps it in the log, and tells each crate as its turn comes. Where a program runs it
+# is proved, and what comes then, the status too, is the program's.
 tell() { # LOG CRATES..
-    log=$1 status=2
+    log=$1 status=2 runs=''
     shift
     : >"$log"
-    tell_next "$@"
     while IFS= read -r line; do
-        case $line in
-        "exit status "*)
-            status=${line##* }
-            continue
-            ;;
-        "rt: "*" proved ("*)
-            proved=${line#rt: }
-            for crate in "$@"; do
-                shift
-                [ "$crate" = "${proved%% *}" ] || set -- "$@" "$crate"
-            done
-            tell_next "$@"
-            ;;
+        case $runs$line in
+        "exit status "*) status=${line##* } ;;
+        "rt: chose --jobs "*" for "*) say "proving ${line##* }, $(left "$@") left" ;;
+        "rt: running out/"*) runs=/ status=0 ;;
         esac
         printf '%s\n' "$line" >>"$log"
     done
     return "$status"
 }
 
-# Proves a crate and all that it stands on, unless that was done and nothing has changed; a program is built too, and run as in the gate.
-# Standard error has which crate's turn it is and how many are left, and what rt said last if it fails; the log has all of it.
-prove() { # CRATE LOG
-    set -- "$1" "$2" $(stands_on "$1")
-    crate=$1
-    shift
-    if ! { (cd "$root" && rt check "$crate") 2>&1 </dev/null; echo "exit status $?"; } | tell "$@"; then
-        tail -n 15 "$1" >&2
-        say "rt check $crate failed; $1 has all that it said"
+# Proves a crate and all that it stands on, unless that was done and nothing has changed, by a command of rt that builds it too: `lib`,
+# or `run`, which then runs the program, here on nothing. Standard error has which crate's turn it is and how many are left, and what rt
+# said last if it fails; the log has all of it.
+prove() { # COMMAND CRATE
+    command=$1 crate=$2 folder=$root/crates/$2
+    mkdir -p "$folder/out"
+    log=$folder/out/$command.log
+    if ! {
+        case $command in
+        run) (cd "$folder" && rt run 2>&1 >/dev/null </dev/null) ;;
+        *) (cd "$folder" && rt "$command" 2>&1 </dev/null) ;;
+        esac
+        echo "exit status $?"
+    } | tell "$log" $(stands_on "$crate"); then
+        tail -n 15 "$log" >&2
+        say "rt $command failed in crates/$crate; $log has all that it said"
         return 1
     fi
 }

@@ -2,9 +2,9 @@
 # Means: nothing; read by the six (`. counting.sh`) after they set `here`, the folder of all of them.
 # Source: [ours].
 #
-# COUNTER=qemu counts by the plugin executed.c for qemu-user, on any machine; COUNTER=valgrind by callgrind, on x86-64,
-# slower, and within one in a thousand of the other. Unless it is said: the first of the two that is there. Nothing is
-# installed: what is missing is said. BENCH=FILE counts that program in the place of bench as it is built here.
+# COUNTER=qemu counts by the plugin executed.c for qemu-user; COUNTER=valgrind by callgrind, slower, and within one in a
+# thousand of the other. Unless it is said: the first of the two that is there. Nothing is installed: what is missing is
+# said. BENCH=FILE counts that program in the place of bench as it is built here.
 die() { printf '%s: %s\n' "$(basename "$0")" "$*" >&2; exit 2; }
 
 # Ends with words if one of the commands is missing.
@@ -24,7 +24,7 @@ build_bench() {
     program=${BENCH:-}
     [ -z "$program" ] || return 0
     "$root/run" bench </dev/null || die "bench could not be built"
-    program=$root/target/bin/bench
+    program=$root/crates/bench/out/bench
 }
 
 # Makes all ready to count: sets root, lib, work and counter.
@@ -32,12 +32,12 @@ start_counting() {
     root=$here/../..
     counter=${COUNTER:-}
     command -v rt >/dev/null || die "rt, the command of the Rattle kit, is not on the PATH"
-    lib=${RATTLE_HOME:-$(dirname "$(readlink -f "$(command -v rt)")")/..}/on/$(uname -m)/toolchain/lib
+    lib=$(dirname "$(dirname "$(readlink -f "$(command -v rt)")")")/toolchain/lib
     work=$(mktemp -d)
     trap 'rm -rf "$work"' EXIT
     if [ -z "$counter" ]; then
         counter=qemu
-        if [ "$(uname -m)" = x86_64 ] && ! command -v qemu-x86_64 >/dev/null && command -v valgrind >/dev/null; then
+        if ! command -v qemu-x86_64 >/dev/null && command -v valgrind >/dev/null; then
             counter=valgrind
         fi
     fi
@@ -50,12 +50,11 @@ start_counting() {
         gcc -shared -fPIC -O2 -DPLUGIN_VERSION=$version -o "$work/executed.so" "$here/executed.c"
         ;;
     valgrind)
-        [ "$(uname -m)" = x86_64 ] || die "valgrind counts on x86-64 only"
         need valgrind valgrind
         ;;
     *) die "COUNTER is qemu or valgrind" ;;
     esac
-    # For a memory of 16 MiB. A number: an emulator takes "unlimited" for a small stack.
+    # For a memory of 16 MiB. A number: qemu takes "unlimited" for a small stack.
     ulimit -S -s 65536 2>/dev/null || die "the stack limit, $(ulimit -H -s) KiB, is below 65536"
 }
 

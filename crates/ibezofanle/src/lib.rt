@@ -1,5 +1,5 @@
 // lib.rt - the calls from C: reset, step and run in both manners, undo, the tryer, with the state in a lent block of 80 bytes; the two
-// conversions of a journal; the part of memory or ROM. No `requires`.  Declared for C in c/ibezofanle.h.
+// conversions of a journal; the part of memory or ROM. No `requires`.  Exported to C by crate ibezofanle_c; declared for C in c/ibezofanle.h.
 // Means: Calls and Promises of the crate block_calls, Promises of forms, Part of part, where the laws and the theorems stand.
 // Uses: bus, block, calls, block_calls, part, keeping, machine, tries, forms.  Source: [K1], [K2], [K5], [K7], [K8], [K10].
 ghost use Rattle.bus.specs.Bus.{board_of};
@@ -21,8 +21,7 @@ use tries::{BackAnswer, TryAnswer};
 const NO_BLOCK: u32 = 9;
 
 // Reset. It does not write memory.
-#[unsafe(no_mangle)]
-pub extern "C" fn ibz_reset(block: &mut [u8], memory: &[u8], rom: &[u8]) -> ResetAnswer
+pub fn ibz_reset(block: &mut [u8], memory: &[u8], rom: &[u8]) -> ResetAnswer
     ensures { IbzResetPromise block.old memory.now rom.now block.new result }
 {
     if block.len() != BLOCK_LENGTH {
@@ -40,8 +39,7 @@ pub extern "C" fn ibz_reset(block: &mut [u8], memory: &[u8], rom: &[u8]) -> Rese
 
 // ---- step and run that drop the oldest records where the journal is full
 
-#[unsafe(no_mangle)]
-pub extern "C" fn ibz_step(
+pub fn ibz_step(
     block: &mut [u8],
     lo: u32,
     hi: u32,
@@ -71,8 +69,7 @@ pub extern "C" fn ibz_step(
     a
 }
 
-#[unsafe(no_mangle)]
-pub extern "C" fn ibz_run(
+pub fn ibz_run(
     block: &mut [u8],
     lo: u32,
     hi: u32,
@@ -105,8 +102,7 @@ pub extern "C" fn ibz_run(
 
 // ---- step and run that keep all records, and take no step where the journal is full
 
-#[unsafe(no_mangle)]
-pub extern "C" fn ibz_step_keeping(
+pub fn ibz_step_keeping(
     block: &mut [u8],
     lo: u32,
     hi: u32,
@@ -136,8 +132,7 @@ pub extern "C" fn ibz_step_keeping(
     a
 }
 
-#[unsafe(no_mangle)]
-pub extern "C" fn ibz_run_keeping(
+pub fn ibz_run_keeping(
     block: &mut [u8],
     lo: u32,
     hi: u32,
@@ -170,8 +165,7 @@ pub extern "C" fn ibz_run_keeping(
 
 // ---- undo
 
-#[unsafe(no_mangle)]
-pub extern "C" fn ibz_undo(
+pub fn ibz_undo(
     block: &mut [u8],
     lo: u32,
     hi: u32,
@@ -197,8 +191,7 @@ pub extern "C" fn ibz_undo(
 
 // ---- the pattern tryer
 
-#[unsafe(no_mangle)]
-pub extern "C" fn ibz_try(
+pub fn ibz_try(
     block: &mut [u8],
     lo: u32,
     hi: u32,
@@ -226,8 +219,7 @@ pub extern "C" fn ibz_try(
     a
 }
 
-#[unsafe(no_mangle)]
-pub extern "C" fn ibz_take_back(
+pub fn ibz_take_back(
     block: &mut [u8],
     lo: u32,
     hi: u32,
@@ -264,8 +256,7 @@ pub extern "C" fn ibz_take_back(
 // ---- the part of memory or of ROM that holds an address and a length: no state is lent, and no block is asked for
 
 // An exported function can not return a reference: the part is written where the caller says, and the number is returned.
-#[unsafe(no_mangle)]
-pub extern "C" fn ibz_part<'a, 'b>(
+pub fn ibz_part<'a, 'b>(
     memory: &'a [u8],
     rom: &'a [u8],
     address: u64,
@@ -281,15 +272,13 @@ pub extern "C" fn ibz_part<'a, 'b>(
 
 // ---- form 2, for posting: no state is lent, and no block is asked for
 
-#[unsafe(no_mangle)]
-pub extern "C" fn ibz_to_form_two(journal: &[u8], target: &mut [u8]) -> FormAnswer
+pub fn ibz_to_form_two(journal: &[u8], target: &mut [u8]) -> FormAnswer
     ensures { ConvertPromise One journal.now target.old target.new result }
 {
     forms::to_form_two(journal, target)
 }
 
-#[unsafe(no_mangle)]
-pub extern "C" fn ibz_to_form_one(journal: &[u8], target: &mut [u8]) -> FormAnswer
+pub fn ibz_to_form_one(journal: &[u8], target: &mut [u8]) -> FormAnswer
     ensures { ConvertPromise Two journal.now target.old target.new result }
 {
     forms::to_form_one(journal, target)

@@ -1,30 +1,29 @@
 // main.rt - the nine lines of each image that an argument names, under its name.
 // Means: nothing; proved safe.
-// Uses: nine, io, libc, os.  Source: [01 Set down and proved].
-use libc::STDOUT_FILENO;
+// Uses: console, nine.  Source: [01 Set down and proved].
+#![tactic(auto)]
 
-fn show(path: &[u8]) {
-    let image = os::open_read(path);
-    if image < 0 {
-        os::fail(path);
-        return;
-    }
-    let mut memory = io::large_buffer();
-    io::read_full(image, &mut memory);
-    libc::close(image);
-    io::write_all(STDOUT_FILENO, path);
-    io::write_all(STDOUT_FILENO, b"\n");
-    nine::nine_lines(&mut memory);
+use std::fs::File;
+use std::{env, fs, io};
+
+fn show_image(rt: &impl Print, path: &str, image: &mut File) -> io::Result<()> {
+    let mut memory = [0u8; 65536];
+    console::read_full(image, &mut memory)?;
+    println!(rt; "{path}")?;
+    nine::nine_lines(rt, &mut memory)
 }
 
-fn show_argument(i: usize) {
-    let mut path = io::buffer();
-    let n = os::arg(i, &mut path);
-    show(&path[..n]);
+// The lines of one image, or why it can not be opened.
+fn show(rt: &HostRuntime, path: &str) -> io::Result<()> {
+    match fs::open(rt, path) {
+        Ok(mut image) => show_image(rt, path, &mut image),
+        Err(e) => eprintln!(rt; "{path}: {e}"),
+    }
 }
 
-fn main() {
-    for i in 1..os::arg_count() {
-        show_argument(i);
+fn main(rt: HostRuntime) -> io::Result<()> {
+    for path in env::args(&rt)?.skip(1) {
+        show(&rt, path.as_str())?;
     }
+    Ok(())
 }

@@ -5,6 +5,7 @@ use crate::telling;
 use forms::{Form, read_in};
 use record::limits::{BYTE_LIMIT, SLOT_LIMIT};
 use runs::Logged;
+use std::io;
 
 // How many records are well shaped on the way, and where it ends: at place 0, or just after one that is not well shaped.
 #[derive(Clone, Copy)]
@@ -30,7 +31,7 @@ pub fn way_of(form: Form, file: &[u8]) -> Way {
 }
 
 // Tells each of so many records, the newest first.
-pub fn tell_all(form: Form, file: &[u8], records: u64) {
+pub fn tell_all(rt: &impl Print, form: Form, file: &[u8], records: u64) -> io::Result<()> {
     let mut slots = [0u64; SLOT_LIMIT];
     let mut bytes = [0u64; BYTE_LIMIT];
     let mut step = records;
@@ -38,11 +39,12 @@ pub fn tell_all(form: Form, file: &[u8], records: u64) {
     while 0 < end {
         let Logged::Record(ns, i, n, start) = read_in(form, file, end, &mut slots, &mut bytes)
         else {
-            return;
+            return Ok(());
         };
-        telling::step(step, records);
-        telling::changes(&slots, ns, &bytes, i, n);
+        telling::step(rt, step, records)?;
+        telling::changes(rt, &slots, ns, &bytes, i, n)?;
         step = std::num::wrapping_sub_u64(step, 1);
         end = start;
     }
+    Ok(())
 }

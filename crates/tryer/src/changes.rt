@@ -5,6 +5,7 @@ use crate::ending::Frame;
 use bus::Window;
 use codes::SLOTS;
 use console::{byte, counted, decimal, place, slots, text};
+use std::io;
 
 // of a longer run so many bytes are shown
 const SHOWN: usize = 16;
@@ -12,35 +13,36 @@ const SHOWN: usize = 16;
 // ---- slots
 
 // After a slot's name, so that values stand below each other.
-fn space_after(k: usize) {
+fn space_after(rt: &impl Print, k: usize) -> io::Result<()> {
     match k {
-        codes::USP | codes::SSP => text(b"  "),
-        codes::MODE => text(b" "),
-        _ => text(b"   "),
+        codes::USP | codes::SSP => text(rt, b"  "),
+        codes::MODE => text(rt, b" "),
+        _ => text(rt, b"   "),
     }
 }
 
-fn tell_slot(k: usize, old: u32, new: u32) {
+fn tell_slot(rt: &impl Print, k: usize, old: u32, new: u32) -> io::Result<()> {
     if old == new {
-        return;
+        return Ok(());
     }
-    text(b"  ");
-    slots::name(k);
-    space_after(k);
-    slots::value(k, old);
-    text(b" -> ");
-    slots::value(k, new);
-    text(b"\n");
+    text(rt, b"  ")?;
+    slots::name(rt, k)?;
+    space_after(rt, k)?;
+    slots::value(rt, k, old)?;
+    text(rt, b" -> ")?;
+    slots::value(rt, k, new)?;
+    text(rt, b"\n")
 }
 
-pub fn tell_slots(before: &[u32; SLOTS], after: &[u32; SLOTS]) {
-    text(b"changed registers:\n");
+pub fn tell_slots(rt: &impl Print, before: &[u32; SLOTS], after: &[u32; SLOTS]) -> io::Result<()> {
+    text(rt, b"changed registers:\n")?;
     for k in 0..SLOTS {
-        tell_slot(k, before[k], after[k]);
+        tell_slot(rt, k, before[k], after[k])?;
     }
     if compare::same_slots(before, after) {
-        text(b"  none\n");
+        text(rt, b"  none\n")?;
     }
+    Ok(())
 }
 
 // ---- memory
@@ -105,59 +107,70 @@ fn run_length(before: &[u8], after: &[u8], b: Bounds, from: usize) -> usize {
     std::num::wrapping_sub_usize(before.len(), from)
 }
 
-fn tell_bytes(bytes: &[u8], from: usize, n: usize) {
+fn tell_bytes(rt: &impl Print, bytes: &[u8], from: usize, n: usize) -> io::Result<()> {
     for i in 0..SHOWN {
         if i < n {
-            byte(at(bytes, std::num::wrapping_add_usize(from, i)));
+            byte(rt, at(bytes, std::num::wrapping_add_usize(from, i)))?;
         }
     }
     if SHOWN < n {
-        text(b" .. and ");
-        decimal((n - SHOWN) as u64);
-        text(b" more");
+        text(rt, b" .. and ")?;
+        decimal(rt, (n - SHOWN) as u64)?;
+        text(rt, b" more")?;
     }
-    text(b"\n");
+    text(rt, b"\n")
 }
 
-fn tell_where(b: Bounds, i: usize) {
+fn tell_where(rt: &impl Print, b: Bounds, i: usize) -> io::Result<()> {
     let outside = !in_window(b, i);
     if outside {
-        text(b", outside the window");
+        text(rt, b", outside the window")?;
     }
     if in_frame(b, i) {
-        text(b": the frame of the exception");
+        text(rt, b": the frame of the exception")?;
     }
-    text(b"\n");
+    text(rt, b"\n")
 }
 
-fn tell_run(before: &[u8], after: &[u8], b: Bounds, from: usize) {
+fn tell_run(
+    rt: &impl Print,
+    before: &[u8],
+    after: &[u8],
+    b: Bounds,
+    from: usize,
+) -> io::Result<()> {
     let n = run_length(before, after, b, from);
-    text(b"  ");
-    place(from);
-    text(b" to ");
-    place(std::num::wrapping_sub_usize(std::num::wrapping_add_usize(from, n), 1));
-    text(b", ");
-    counted(n as u64, b"byte");
-    tell_where(b, from);
-    text(b"    before");
-    tell_bytes(before, from, n);
-    text(b"    after ");
-    tell_bytes(after, from, n);
+    text(rt, b"  ")?;
+    place(rt, from)?;
+    text(rt, b" to ")?;
+    place(
+        rt,
+        std::num::wrapping_sub_usize(std::num::wrapping_add_usize(from, n), 1),
+    )?;
+    text(rt, b", ")?;
+    counted(rt, n as u64, b"byte")?;
+    tell_where(rt, b, from)?;
+    text(rt, b"    before")?;
+    tell_bytes(rt, before, from, n)?;
+    text(rt, b"    after ")?;
+    tell_bytes(rt, after, from, n)
 }
 
-fn tell_place(before: &[u8], after: &[u8], b: Bounds, i: usize) {
+fn tell_place(rt: &impl Print, before: &[u8], after: &[u8], b: Bounds, i: usize) -> io::Result<()> {
     if starts(before, after, b, i) {
-        tell_run(before, after, b, i);
+        tell_run(rt, before, after, b, i)?;
     }
+    Ok(())
 }
 
-pub fn tell_memory(before: &[u8], after: &[u8], b: Bounds) {
-    text(b"changed memory:\n");
+pub fn tell_memory(rt: &impl Print, before: &[u8], after: &[u8], b: Bounds) -> io::Result<()> {
+    text(rt, b"changed memory:\n")?;
     for i in 0..before.len() {
-        tell_place(before, after, b, i);
+        tell_place(rt, before, after, b, i)?;
     }
     let frame = b.frame;
     if compare::same(before, after) && frame.length == 0 {
-        text(b"  none\n");
+        text(rt, b"  none\n")?;
     }
+    Ok(())
 }

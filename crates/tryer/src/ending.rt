@@ -4,6 +4,7 @@
 use crate::names;
 use codes::SLOTS;
 use console::{address, counted, decimal, hex, text};
+use std::io;
 use tries::TryAnswer;
 
 // Where an exception's frame lies, and its length: 0 where there is none.
@@ -51,51 +52,51 @@ fn long_at(memory: &[u8], at: u32) -> u32 {
 }
 
 // The information word: bit 4 is set for a read, the three lowest are the function code.
-fn tell_kind(info: u32) {
+fn tell_kind(rt: &impl Print, info: u32) -> io::Result<()> {
     if info % 4 == 2 {
-        text(b"program ");
+        text(rt, b"program ")?;
     } else {
-        text(b"data ");
+        text(rt, b"data ")?;
     }
     if info / 16 % 2 == 1 {
-        text(b"read");
+        text(rt, b"read")?;
     } else {
-        text(b"write");
+        text(rt, b"write")?;
     }
     if info % 4 == 2 {
-        text(b" (a fetch, or an operand relative to PC)");
+        text(rt, b" (a fetch, or an operand relative to PC)")?;
     }
     if info / 4 % 2 == 1 {
-        text(b" by the supervisor");
+        text(rt, b" by the supervisor")
     } else {
-        text(b" by the user");
+        text(rt, b" by the user")
     }
 }
 
-fn tell_word(fetched: bool, op: u32) {
+fn tell_word(rt: &impl Print, fetched: bool, op: u32) -> io::Result<()> {
     if fetched {
-        text(b", operation word ");
-        hex(op as u64, 4);
+        text(rt, b", operation word ")?;
+        hex(rt, op as u64, 4)
     } else {
-        text(b", whose operation word was not read");
+        text(rt, b", whose operation word was not read")
     }
 }
 
 // From the frame's start: information word, access address, operation word, SR, PC, which is the instruction's address plus 2.
-fn tell_fault(memory: &[u8], at: u32) {
+fn tell_fault(rt: &impl Print, memory: &[u8], at: u32) -> io::Result<()> {
     let info = word_at(memory, at);
     let access = long_at(memory, std::num::wrapping_add_u32(at, 2));
     let op = word_at(memory, std::num::wrapping_add_u32(at, 6));
     let saved = long_at(memory, std::num::wrapping_add_u32(at, 10));
     let instruction = std::num::wrapping_sub_u32(saved, 2);
-    text(b"  access: ");
-    tell_kind(info);
-    text(b" at ");
-    address(access);
-    text(b"\n  instruction: at ");
-    address(instruction);
+    text(rt, b"  access: ")?;
+    tell_kind(rt, info)?;
+    text(rt, b" at ")?;
+    address(rt, access)?;
+    text(rt, b"\n  instruction: at ")?;
+    address(rt, instruction)?;
     let first = (info % 4 == 2) & (instruction % codes::ADDRESSES == access);
-    tell_word(!first, op);
+    tell_word(rt, !first, op)
 }
 
 // Whether the saved PC is that of the instruction itself: else it is that of the next one.
@@ -110,57 +111,69 @@ fn is_own(vector: u32) -> bool {
 }
 
 // From the frame's start: SR, PC.
-fn tell_saved(memory: &[u8], at: u32, vector: u32) {
-    text(b"  saved PC: ");
-    address(long_at(memory, std::num::wrapping_add_u32(at, 2)));
+fn tell_saved(rt: &impl Print, memory: &[u8], at: u32, vector: u32) -> io::Result<()> {
+    text(rt, b"  saved PC: ")?;
+    address(rt, long_at(memory, std::num::wrapping_add_u32(at, 2)))?;
     if is_own(vector) {
-        text(b", the address of the instruction");
+        text(rt, b", the address of the instruction")
     } else {
-        text(b", the address after the instruction");
+        text(rt, b", the address after the instruction")
     }
 }
 
-fn tell_exception(vector: u32, f: Frame, memory: &[u8]) {
-    text(b", the last one took an exception: vector ");
-    decimal(vector as u64);
-    text(b", ");
-    names::vector(vector);
-    text(b"\n");
+fn tell_exception(rt: &impl Print, vector: u32, f: Frame, memory: &[u8]) -> io::Result<()> {
+    text(rt, b", the last one took an exception: vector ")?;
+    decimal(rt, vector as u64)?;
+    text(rt, b", ")?;
+    names::vector(rt, vector)?;
+    text(rt, b"\n")?;
     if f.length == 14 {
-        tell_fault(memory, f.at);
+        tell_fault(rt, memory, f.at)?;
     } else {
-        tell_saved(memory, f.at, vector);
+        tell_saved(rt, memory, f.at, vector)?;
     }
-    text(b"\n  frame: ");
-    counted(f.length as u64, b"byte");
-    text(b" at ");
-    address(f.at);
+    text(rt, b"\n  frame: ")?;
+    counted(rt, f.length as u64, b"byte")?;
+    text(rt, b" at ")?;
+    address(rt, f.at)
 }
 
-fn tell_halt(ssp: u32) {
-    text(b", the last one halted: the frame of its exception cannot be written below SSP ");
-    address(ssp);
-    text(b", or the handler of its fault is at an odd address");
+fn tell_halt(rt: &impl Print, ssp: u32) -> io::Result<()> {
+    text(
+        rt,
+        b", the last one halted: the frame of its exception cannot be written below SSP ",
+    )?;
+    address(rt, ssp)?;
+    text(rt, b", or the handler of its fault is at an odd address")
 }
 
-fn tell_refusal(number: u32) {
-    text(b", ended by refusal ");
-    decimal(number as u64);
-    text(b": ");
-    names::refusal(number);
+fn tell_refusal(rt: &impl Print, number: u32) -> io::Result<()> {
+    text(rt, b", ended by refusal ")?;
+    decimal(rt, number as u64)?;
+    text(rt, b": ")?;
+    names::refusal(rt, number)
 }
 
 // The result.
-pub fn tell(a: TryAnswer, f: Frame, slots: &[u32; SLOTS], memory: &[u8]) {
-    text(b"result: ");
-    counted(a.steps as u64, b"step");
+pub fn tell(
+    rt: &impl Print,
+    a: TryAnswer,
+    f: Frame,
+    slots: &[u32; SLOTS],
+    memory: &[u8],
+) -> io::Result<()> {
+    text(rt, b"result: ")?;
+    counted(rt, a.steps as u64, b"step")?;
     let end = a.end;
     match end {
-        tries::SPENT => text(b", ended since all that were allowed are spent"),
-        tries::SUPERVISED => text(b": the start is in supervisor state, which is not tried"),
-        tries::TAKEN_EXCEPTION => tell_exception(a.vector, f, memory),
-        tries::HALT => tell_halt(slots[codes::SSP]),
-        _ => tell_refusal(a.number),
+        tries::SPENT => text(rt, b", ended since all that were allowed are spent")?,
+        tries::SUPERVISED => text(
+            rt,
+            b": the start is in supervisor state, which is not tried",
+        )?,
+        tries::TAKEN_EXCEPTION => tell_exception(rt, a.vector, f, memory)?,
+        tries::HALT => tell_halt(rt, slots[codes::SSP])?,
+        _ => tell_refusal(rt, a.number)?,
     }
-    text(b"\n");
+    text(rt, b"\n")
 }

@@ -1,6 +1,6 @@
 // words.rt - the words after the program's name: which addresses, steps, start and stack they ask, and the name of a ROM's file.
 // Means: nothing; proved safe.
-// Uses: io, os.  Source: [ours].
+// Uses: nothing.  Source: [ours].
 
 // how many bytes a memory has here, and the steps that are allowed where no word says it
 pub const MEMORY: usize = 65536;
@@ -84,13 +84,11 @@ fn spelled(text: &[u8], ten: bool, other: u64) -> u64 {
 }
 
 // Word k, or the other number where there are fewer.
-fn word(k: usize, ten: bool, other: u64) -> u64 {
-    if os::arg_count() <= k {
+fn word(args: &[String], k: usize, ten: bool, other: u64) -> u64 {
+    if args.len() <= k {
         return other;
     }
-    let mut text = io::buffer();
-    let n = os::arg(k, &mut text);
-    spelled(&text[..n], ten, other)
+    spelled(args[k].as_bytes(), ten, other)
 }
 
 // The stack that no word names: at the window's end, or at memory's where the window reaches into ROM.
@@ -101,20 +99,20 @@ fn stack_below(hi: u64) -> u64 {
     ALL
 }
 
-pub fn read() -> Words {
-    let hi = word(2, false, ALL);
+pub fn read(args: &[String]) -> Words {
+    let hi = word(args, 2, false, ALL);
     Words {
-        lo: word(1, false, 0),
+        lo: word(args, 1, false, 0),
         hi,
-        steps: word(3, true, STEPS),
-        pc: word(4, false, OF_RESET),
-        stack: word(5, false, stack_below(hi)),
+        steps: word(args, 3, true, STEPS),
+        pc: word(args, 4, false, OF_RESET),
+        stack: word(args, 5, false, stack_below(hi)),
     }
 }
 
 // Whether there are not too many words, and each is a number.
-pub fn are_good(w: Words) -> bool {
-    if 7 < os::arg_count() {
+pub fn are_good(args: &[String], w: Words) -> bool {
+    if 7 < args.len() {
         return false;
     }
     w.lo < NO_NUMBER
@@ -125,13 +123,11 @@ pub fn are_good(w: Words) -> bool {
 }
 
 // Whether a word is the name of a ROM's file.
-pub fn names_rom() -> bool {
-    if os::arg_count() <= FILE {
+pub fn names_rom(args: &[String]) -> bool {
+    if args.len() <= FILE {
         return false;
     }
-    let mut text = io::buffer();
-    let n = os::arg(FILE, &mut text);
-    !is_dash(&text[..n])
+    !is_dash(args[FILE].as_bytes())
 }
 
 // The number of a word, with 32 bits.

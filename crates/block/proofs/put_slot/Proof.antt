@@ -8,10 +8,10 @@ use borrow.Author.Rules.{rules}
 use Rattle.block.proofs.put_slot.Statement.{statement}
 use Rattle.block.proofs.put_slot.Tie as tie
 
-slice_write_block_2 : tie.Need-slice-write-block-2
+slice_write_block_2 : tie.Need-bounds-block-at-2
 slice_write_block_2 c = lt-length-set c.args.block.now _ _ (omega arith)
 
-slice_write_block_3 : tie.Need-slice-write-block-3
+slice_write_block_3 : tie.Need-bounds-block-at-3
 slice_write_block_3 c = lt-length-set (set c.args.block.now _ _) _ _ (lt-length-set c.args.block.now _ _ (omega arith))
 
 returns : tie.Need-returns

@@ -7,4 +7,4 @@ pub byte_of_spec : {M : Type 1} → statement M
 unfolding byte_of
 byte_of_spec =
     tie.close (tie.spec
-    (λ c. search case_at) (λ c. search case_at) (λ c. search case_at) (λ c. search (case_past, c.match.rest)))
+    (λ c. search case_at) (λ c. search case_at) (λ c. search case_at) (λ c. search (case_past, c.in_default.in_default-own.rest)))

@@ -6,10 +6,10 @@ use Rattle.movem.proofs.MovemLaws.{spot_end}
 use Rattle.blocks.proofs.room_list.Statement.{statement}
 use Rattle.blocks.proofs.room_list.Tie as tie
 
-abbrev invariant_loop : tie.invariant_loop
+abbrev invariant_loop : tie.invariant-loop-j
 invariant_loop mem w d₀ j₀ d j = Turns (room_one (view_of (map (λ x. x.now) mem)) w) 16 j d₀ d
 
-abbrev decreases_loop : tie.decreases_loop
+abbrev decreases_loop : tie.decreases-loop-j
 decreases_loop mem w d₀ j₀ d j = 16 - j
 
 pub room_list_spec : {M : Type 1} → statement M

@@ -3,10 +3,10 @@ use Rattle.blocks.proofs.StoringLaws.{Storing, storing_start, storing_room, stor
 use Rattle.blocks.proofs.store_list.Statement.{statement}
 use Rattle.blocks.proofs.store_list.Tie as tie
 
-abbrev invariant_loop : tie.invariant_loop
+abbrev invariant_loop : tie.invariant-loop-j
 invariant_loop memory₀ log₀ n r p f w d₀ m₀ j₀ memory log d m j = Storing r p w memory₀ log₀ n d₀ j memory log m d
 
-abbrev decreases_loop : tie.decreases_loop
+abbrev decreases_loop : tie.decreases-loop-j
 decreases_loop memory₀ log₀ n r p f w d₀ m₀ j₀ memory log d m j = 16 - j
 
 pub store_list_spec : {M : Type 1} → statement M

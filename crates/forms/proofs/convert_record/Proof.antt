@@ -17,9 +17,9 @@ use Rattle.forms.proofs.convert_record.Statement.{statement}
 use Rattle.forms.proofs.convert_record.Tie as tie
 
 -- the record that was read
-module _ (c : tie.After-ns) where
+module _ (c : tie.In-Record) where
   abbrev s₁ : tie.Start
-  s₁ = c.before.before.before.before.before.before.before.before.before
+  s₁ = c.before.before.before.before.before.before.before.before
 
   abbrev form : Form
   form = s₁.args.form
@@ -28,63 +28,63 @@ module _ (c : tie.After-ns) where
   j = s₁.args.journal.now
 
   abbrev ls : List ℕ
-  ls = c.before.before.before.before.read_in.new.1.1.1.0
+  ls = c.read_in.new.slots
 
   abbrev lb : List ℕ
-  lb = c.before.before.before.before.read_in.new.1.1.1.1.0
+  lb = c.read_in.new.bytes
 
   abbrev ns : ℕ
-  ns = c.ns.given.0.0
+  ns = c.in-Record.ns
 
   abbrev i : ℕ
-  i = c.ns.given.0.1.0
+  i = c.in-Record.i
 
   abbrev n : ℕ
-  n = c.ns.given.0.1.1.0
+  n = c.in-Record.n
 
   abbrev start : ℕ
-  start = c.ns.given.0.1.1.1.0
+  start = c.in-Record.start
 
   abbrev row : Row
   row = record { slots = changes ls ns; bytes = between i n lb }
 
   there : LoggedIs (read_in form (back j s₁.args.mark)) j s₁.args.mark ls lb (log.Record ns i n start)
   there =
-      let x = c.before.before.before.before.read_in in
-      logged_record (read_in form (back j s₁.args.mark)) j s₁.args.mark ls lb x.result x.ensures ns i n start c.ns.given.1
+      let x = c.read_in in
+      logged_record (read_in form (back j s₁.args.mark)) j s₁.args.mark ls lb x.result x.ensures ns i n start c.in-Record.is
 
   few : ns ≤ length ls
-  few = omega (arith, there.2, c.before.before.before.before.read_in.auto.1.1.1.0)
+  few = omega (arith, there.2, c.read_in.auto.slots)
 
   few_bytes : n ≤ length lb
-  few_bytes = omega (arith, there.4, c.before.before.before.before.read_in.auto.1.1.1.1.0)
+  few_bytes = omega (arith, there.4, c.read_in.auto.bytes)
 
   room : length (record_in (other form) row) ≤ length s₁.args.out.now
   room =
-      let g = c.before.before.before.before.before.before.before.before.shared-slice-known.given in
-      omega (arith, s₁.pre.1, other_fits form j s₁.args.mark row (back j start) s₁.pre.0 (λ k. omega (arith, g k)) there.0)
+      let g = c.shared_slice_known-1.given in
+      omega (arith, s₁.requires.1, other_fits form j s₁.args.mark row (back j start) s₁.requires.0 (λ k. omega (arith, g k)) there.0)
 
-returns : tie.Need-returns
+returns : tie.Need-returns-in_default
 returns c =
-    let s = c.before.before.before.before.before.before.before.before.before in
-    let x = c.before.before.before.before.read_in in
+    let s = c.before.before.before.before.before.before.before.before in
+    let x = c.read_in in
     let j₁ = s.args.journal.now in
-    logged_nothing (read_in s.args.form (back j₁ s.args.mark)) j₁ s.args.mark x.new.1.1.1.0 x.new.1.1.1.1.0 x.result
-    x.ensures c.enum_told.given.1
+    logged_nothing (read_in s.args.form (back j₁ s.args.mark)) j₁ s.args.mark x.new.slots x.new.bytes x.result
+    x.ensures c.in_default.is
 
-put_in_requires : tie.Need-put-in-requires
+put_in_requires : tie.Need-put_in-len-requires
 put_in_requires c κs =
-    let d = c.before.before.before.before.before in
-    let e = c.before.before.before.other.ensures in
+    let d = c.before.before.before.before in
+    let e = c.other.ensures in
     ((few d, (there d).2, (there d).3, few_bytes d, (there d).4), rw e (room d))
 
-returns_2 : tie.Need-returns-2
+returns_2 : tie.Need-returns
 returns_2 c =
-    let d = c.before.before.before.before.before.before.before.before in
-    let e = c.before.before.before.before.before.before.other.ensures in
-    let x = c.before.before.put_in in
-    let put : BytesPut (s₁ d).args.out.now 0 (record_in (other (form d)) (row d)) x.new.1.0 x.result = rw (← e) x.ensures in
-    let w = put_taken (s₁ d).args.out.now (record_in (other (form d)) (row d)) x.new.1.0 x.result put (room d) in
+    let d = c.before.before.before.before.before.before.before in
+    let e = c.other.ensures in
+    let x = c.put_in-len in
+    let put : BytesPut (s₁ d).args.out.now 0 (record_in (other (form d)) (row d)) x.new.out x.result = rw (← e) x.ensures in
+    let w = put_taken (s₁ d).args.out.now (record_in (other (form d)) (row d)) x.new.out x.result put (room d) in
     (row d, (there d).0, (there d).1, w.0, w.1, w.2)
 
 pub convert_record_spec : {M : Type 1} → statement M

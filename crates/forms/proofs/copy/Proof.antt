@@ -11,19 +11,19 @@ use borrow.Author.Rules.{rules}
 use Rattle.forms.proofs.copy.Statement.{statement}
 use Rattle.forms.proofs.copy.Tie as tie
 
-abbrev invariant_loop : tie.invariant_loop
+abbrev invariant_loop : tie.invariant-loop-k
 invariant_loop target₀ at from n k₀ target k = (k ≤ n) × (length target ≡ length target₀) × (target ≡ written target₀ at (take k from))
 
-abbrev decreases_loop : tie.decreases_loop
+abbrev decreases_loop : tie.decreases-loop-k
 decreases_loop target₀ at from n k₀ target k = n - k
 
-loop_holds : tie.Need-loop-init invariant_loop decreases_loop
+loop_holds : tie.Need-loop-k-init invariant_loop decreases_loop
 loop_holds c = (omega arith, refl, sym (written_none c.args.target.now c.args.at))
 
-loop_again : tie.Need-loop-preserved invariant_loop decreases_loop
+loop_again : tie.Need-loop-k-preserved invariant_loop decreases_loop
 loop_again c =
     let s = c.before.before.before in
-    let q = c.before.before.loop in
+    let q = c.before.before.loop-k in
     let t = s.args.target.now in
     let from = s.args.from.now in
     let at = s.args.at in (
@@ -35,7 +35,7 @@ loop_again c =
 returns : tie.Need-returns invariant_loop decreases_loop
 returns c =
     let s = c.before.before in
-    let q = c.before.loop in
+    let q = c.before.loop-k in
     let end : q.k ≡ s.args.n = omega arith in
     q.invariant.2 ∙ ap (λ (k : ℕ). written s.args.target.now s.args.at (take k s.args.from.now)) end
 

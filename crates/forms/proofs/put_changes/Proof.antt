@@ -12,13 +12,13 @@ use borrow.Author.Rules.{rules}
 use Rattle.forms.proofs.put_changes.Statement.{statement}
 use Rattle.forms.proofs.put_changes.Tie as tie
 
-abbrev invariant_loop : tie.invariant_loop
+abbrev invariant_loop : tie.invariant-loop-k
 invariant_loop out₀ at log i n k₀ p₀ out k p = (k ≤ n) × Left out₀ at (changes_bytes (between i n log)) out p (changes_bytes (between k n log))
 
-abbrev decreases_loop : tie.decreases_loop
+abbrev decreases_loop : tie.decreases-loop-k
 decreases_loop out₀ at log i n k₀ p₀ out k p = n - k
 
-loop_holds : tie.Need-loop-init invariant_loop decreases_loop
+loop_holds : tie.Need-loop-k-init invariant_loop decreases_loop
 loop_holds c =
     let a = c.before.before.args in
     let w = changes_bytes (between a.i a.n a.log.now) in
@@ -44,53 +44,53 @@ module _ (s : tie.Start invariant_loop decreases_loop) (k : ℕ) where
   abbrev rest : List ℕ
   rest = changes_bytes (between k s.args.n log)
 
-put_number_requires : tie.Need-put-number-requires invariant_loop decreases_loop
+put_number_requires : tie.Need-put_number-p-requires invariant_loop decreases_loop
 put_number_requires c κs =
     let s = c.before.before.before.before.before.before in
-    let q = c.before.before.before.loop in
+    let q = c.before.before.before.loop-k in
     left_room s.args.out.now s.args.at (all s q.k) s.requires.3 q.out q.p (rest s q.k) (hi s q.k)
     (lo s q.k ++ more s q.k)
-    (changes_rest (log s q.k) q.k s.args.n c.before.before.loop-test.true s.requires.1) q.invariant.1
+    (changes_rest (log s q.k) q.k s.args.n c.before.before.loop-k-test.true s.requires.1) q.invariant.1
 
-after_one : (c : tie.After-slice-known2 invariant_loop decreases_loop)
+after_one : (c : tie.After-slice_known-in-loop-k-1 invariant_loop decreases_loop)
     → let s = c.before.before.before.before.before.before.before.before.before in
-    let q = c.before.before.before.before.before.before.loop in
-    Left s.args.out.now s.args.at (all s q.k) c.before.before.put-number.new.0 c.before.before.put-number.result
+    let q = c.before.before.before.before.before.before.loop-k in
+    Left s.args.out.now s.args.at (all s q.k) c.before.before.put_number-p.new.journal c.before.before.put_number-p.result
     (lo s q.k ++ more s q.k)
 after_one c =
     let s = c.before.before.before.before.before.before.before.before.before in
-    let q = c.before.before.before.before.before.before.loop in
-    let x = c.before.before.put-number in
+    let q = c.before.before.before.before.before.before.loop-k in
+    let x = c.before.before.put_number-p in
     left_step s.args.out.now s.args.at (all s q.k) s.requires.3 q.out q.p (rest s q.k) (hi s q.k)
     (lo s q.k ++ more s q.k)
-    (changes_rest (log s q.k) q.k s.args.n c.before.before.before.before.before.loop-test.true s.requires.1) q.invariant.1
-    x.result x.new.0 x.ensures.0 x.ensures.1
+    (changes_rest (log s q.k) q.k s.args.n c.before.before.before.before.before.loop-k-test.true s.requires.1) q.invariant.1
+    x.result x.new.journal x.ensures.0 x.ensures.1
 
-put_number_requires_2 : tie.Need-put-number-requires-2 invariant_loop decreases_loop
+put_number_requires_2 : tie.Need-put_number-p-requires-in-loop-k invariant_loop decreases_loop
 put_number_requires_2 c κs =
     let d = c.before in
     let s = d.before.before.before.before.before.before.before.before.before in
-    let q = d.before.before.before.before.before.before.loop in
-    let x = d.before.before.put-number in
-    left_room s.args.out.now s.args.at (all s q.k) s.requires.3 x.new.0 x.result (lo s q.k ++ more s q.k) (lo s q.k)
+    let q = d.before.before.before.before.before.before.loop-k in
+    let x = d.before.before.put_number-p in
+    left_room s.args.out.now s.args.at (all s q.k) s.requires.3 x.new.journal x.result (lo s q.k ++ more s q.k) (lo s q.k)
     (more s q.k) refl (after_one d)
 
-loop_again : tie.Need-loop-preserved invariant_loop decreases_loop
+loop_again : tie.Need-loop-k-preserved invariant_loop decreases_loop
 loop_again c =
     let d = c.before.before.before.before in
     let s = d.before.before.before.before.before.before.before.before.before in
-    let q = d.before.before.before.before.before.before.loop in
-    let x = d.before.before.put-number in
-    let y = c.before.before.put-number2 in (
+    let q = d.before.before.before.before.before.before.loop-k in
+    let x = d.before.before.put_number-p in
+    let y = c.before.before.put_number-p-in-loop-k in (
       omega arith,
-      left_step s.args.out.now s.args.at (all s q.k) s.requires.3 x.new.0 x.result (lo s q.k ++ more s q.k)
-          (lo s q.k) (more s q.k) refl (after_one d) y.result y.new.0 y.ensures.0 y.ensures.1,
+      left_step s.args.out.now s.args.at (all s q.k) s.requires.3 x.new.journal x.result (lo s q.k ++ more s q.k)
+          (lo s q.k) (more s q.k) refl (after_one d) y.result y.new.journal y.ensures.0 y.ensures.1,
     )
 
 returns : tie.Need-returns invariant_loop decreases_loop
 returns c =
     let s = c.before.before.before.before in
-    let q = c.before.loop in
+    let q = c.before.loop-k in
     record {
       bytes = left_end s.args.out.now s.args.at (all s q.k) q.out q.p (rest s q.k)
           (changes_none (log s q.k) q.k s.args.n q.invariant.0 (omega arith)) q.invariant.1;
@@ -106,7 +106,7 @@ put_changes_spec =
     loop_holds
     (λ c. search rules)
     (λ c. search rules)
-    (λ c. omega (arith, c.before.shared-slice-known2.given c.before.before.before.loop.k))
+    (λ c. omega (arith, c.before.shared_slice_known-in-loop-k-1.given c.before.before.before.loop-k.k))
     put_number_requires
     (λ c. search rules)
     put_number_requires_2

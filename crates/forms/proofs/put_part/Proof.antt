@@ -7,25 +7,25 @@ use borrow.Author.Rules.{rules}
 use Rattle.forms.proofs.put_part.Statement.{statement}
 use Rattle.forms.proofs.put_part.Tie as tie
 
-put_changes_requires : tie.Need-put-changes-requires
+put_changes_requires : tie.Need-put_changes-requires
 put_changes_requires c κs =
-    let s = c.before.before.before.before.before in
+    let s = c.before.before.before.before in
     let a = s.args in (
       s.requires.0,
       s.requires.1,
       s.requires.2,
-      part_fits a.form One c.before.enum_told.given.1 (between a.i a.n a.log.now)
+      part_fits a.form One c.in-One.is (between a.i a.n a.log.now)
           (length a.out.now) a.at s.requires.3,
     )
 
-put_runs_requires : tie.Need-put-runs-requires
+put_runs_requires : tie.Need-put_runs-requires
 put_runs_requires c κs =
-    let s = c.before.before.before.before.before in
+    let s = c.before.before.before.before in
     let a = s.args in (
       s.requires.0,
       s.requires.1,
       s.requires.2,
-      part_fits a.form Two c.before.enum-told2.given.1 (between a.i a.n a.log.now)
+      part_fits a.form Two c.in-Two.is (between a.i a.n a.log.now)
           (length a.out.now) a.at s.requires.3,
     )
 

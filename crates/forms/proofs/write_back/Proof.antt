@@ -18,37 +18,37 @@ use borrow.Author.Rules.{rules}
 use Rattle.forms.proofs.write_back.Statement.{statement}
 use Rattle.forms.proofs.write_back.Tie as tie
 
-abbrev invariant_loop : tie.invariant_loop
+abbrev invariant_loop : tie.invariant-loop-e
 invariant_loop form journal target₀ total out₀ e₀ p₀ target out e p =
     (acc : List Row) × Passed form journal e acc × (length out ≡ longest_record_two) × (length target ≡ length target₀)
     × (p + length (journal_in (other form) acc) ≡ total)
     × (target ≡ written target₀ p (journal_in (other form) acc))
 
-abbrev decreases_loop : tie.decreases_loop
+abbrev decreases_loop : tie.decreases-loop-e
 decreases_loop form journal target₀ total out₀ e₀ p₀ target out e p = e
 
-loop_holds : tie.Need-loop-init invariant_loop decreases_loop
+loop_holds : tie.Need-loop-e-init invariant_loop decreases_loop
 loop_holds c =
     let a = c.before.before.args in
     ([], passed_start a.form a.journal.now, refl, refl, omega arith, sym (written_none a.target.now a.total))
 
-convert_record_requires : tie.Need-convert-record-requires invariant_loop decreases_loop
-convert_record_requires c κs = let q = c.before.before.loop in (q.invariant.1.inside, omega (arith, q.invariant.2))
+convert_record_requires : tie.Need-convert_record-requires invariant_loop decreases_loop
+convert_record_requires c κs = let q = c.loop-e in (q.invariant.1.inside, omega (arith, q.invariant.2))
 
-returns : tie.Need-returns invariant_loop decreases_loop
+returns : tie.Need-returns-in_default invariant_loop decreases_loop
 returns c =
-    let s = c.before.before.before.before.before.before.before.before.before in
-    let q = c.before.before.before.before.before.before.loop in
-    let x = c.before.before.before.convert-record in
+    let s = c.before.before.before.before.before.before.before.before in
+    let q = c.loop-e in
+    let x = c.convert_record in
     let j = s.args.journal.now in
     never_torn s.args.form j s.requires.0 s.requires.1
-    (passed_torn s.args.form j q.e q.invariant.0 c.before.before.before.before.before.loop-test.true q.invariant.1
-    (converted_nothing s.args.form j q.e x.new.1.1.1.0 x.result x.ensures c.enum_told.given.1))
+    (passed_torn s.args.form j q.e q.invariant.0 c.loop-e-test.true q.invariant.1
+    (converted_nothing s.args.form j q.e x.new.out x.result x.ensures c.in_default.is))
 
 -- the record that was converted
-module _ (c : tie.After-len invariant_loop decreases_loop) where
+module _ (c : tie.In-Record invariant_loop decreases_loop) where
   abbrev s₁ : tie.Start invariant_loop decreases_loop
-  s₁ = c.before.before.before.before.before.before.before.before.before
+  s₁ = c.before.before.before.before.before.before.before.before
 
   abbrev j : List ℕ
   j = s₁.args.journal.now
@@ -57,69 +57,69 @@ module _ (c : tie.After-len invariant_loop decreases_loop) where
   form = s₁.args.form
 
   abbrev e : ℕ
-  e = c.before.before.before.before.before.before.loop.e
+  e = c.loop-e.e
 
   abbrev p : ℕ
-  p = c.before.before.before.before.before.before.loop.p
+  p = c.loop-e.p
 
   abbrev acc : List Row
-  acc = c.before.before.before.before.before.before.loop.invariant.0
+  acc = c.loop-e.invariant.0
 
   abbrev out : List ℕ
-  out = c.before.before.before.convert-record.new.1.1.1.0
+  out = c.convert_record.new.out
 
   abbrev len : ℕ
-  len = c.len.given.0.0
+  len = c.in-Record.len
 
   abbrev start : ℕ
-  start = c.len.given.0.1.0
+  start = c.in-Record.s
 
   there : ConvertedIs form j e out (converted.Record len start)
-  there = let x = c.before.before.before.convert-record in converted_record form j e out x.result x.ensures len start c.len.given.1
+  there = let x = c.convert_record in converted_record form j e out x.result x.ensures len start c.in-Record.is
 
   passed : Passed form j start (there.0 ∷ acc)
   passed =
-      let q = c.before.before.before.before.before.before.loop in
-      passed_more form j e acc c.before.before.before.before.before.loop-test.true q.invariant.1 there.0 start there.2 there.1
+      let q = c.loop-e in
+      passed_more form j e acc c.loop-e-test.true q.invariant.1 there.0 start there.2 there.1
 
   low : len ≤ p
   low =
-      let q = c.before.before.before.before.before.before.loop in
-      let g = c.before.before.before.before.before.before.before.before.shared-slice-known.given in
-      let r = room_below form j s₁.pre.0 (λ k. omega (arith, g k)) start there.0 acc s₁.pre.1 passed in
-      omega (arith, r, s₁.pre.2, q.invariant.4, there.3)
+      let q = c.loop-e in
+      let g = c.shared_slice_known-1.given in
+      let r = room_below form j s₁.requires.0 (λ k. omega (arith, g k)) start there.0 acc s₁.requires.1 passed in
+      omega (arith, r, s₁.requires.2, q.invariant.4, there.3)
 
 copy_requires : tie.Need-copy-requires invariant_loop decreases_loop
 copy_requires c κs =
-    let d = c.before.before.before in
-    let q = d.before.before.before.before.before.before.loop in
+    let d = c.before.before in
+    let q = d.loop-e in
     ((there d).5, omega (arith, low d, q.invariant.3, q.invariant.4, (s₁ d).requires.3))
 
-loop_less : tie.Need-loop-smaller invariant_loop decreases_loop
-loop_less c = omega (arith, (there c.before.before.before.before.before.before).2)
+loop_less : tie.Need-loop-e-smaller invariant_loop decreases_loop
+loop_less c = omega (arith, (there c.before.before.before.before.before).2)
 
-loop_again : tie.Need-loop-preserved invariant_loop decreases_loop
+loop_again : tie.Need-loop-e-preserved invariant_loop decreases_loop
 loop_again c =
-    let d = c.before.before.before.before.before.before in
-    let q = d.before.before.before.before.before.before.loop in
-    let x = d.before.before.before.convert-record in
-    let y = c.before.before.copy in
+    let d = c.before.before.before.before.before in
+    let q = d.loop-e in
+    let x = d.convert_record in
+    let y = c.copy in
     let t₀ = (s₁ d).args.target.now in
     let bytes = record_in (other (form d)) (there d).0 in
     let rest = journal_in (other (form d)) (acc d) in (
       (there d).0 ∷ acc d,
       passed d,
-      omega (arith, x.auto.1.1.1.0, q.invariant.2),
-      omega (arith, y.auto.0, q.invariant.3),
+      omega (arith, x.auto.out, q.invariant.2),
+      omega (arith, y.auto.target, q.invariant.3),
       omega (arith, low d, (there d).3, q.invariant.4, length-append bytes rest),
       y.ensures ∙ copied t₀ q.target (out d) (p d) (len d) bytes rest (there d).3 (there d).4 (low d) q.invariant.5
           (omega (arith, q.invariant.4, (s₁ d).requires.3)),
     )
 
-returns_2 : tie.Need-returns-2 invariant_loop decreases_loop
+returns_2 : tie.Need-returns invariant_loop decreases_loop
 returns_2 c =
     let s = c.before.before.before.before in
-    let q = c.before.loop in
+    let q = c.loop-e in
     let j₁ = s.args.journal.now in
     let end : q.e ≡ 0 = omega arith in
     written_all s.args.form j₁ s.args.target.now q.target s.requires.0 q.invariant.0 q.p s.requires.1
@@ -138,7 +138,7 @@ write_back_spec =
     (λ c. search rules)
     (λ c. search rules)
     returns
-    (λ c. omega (arith, low c.before))
+    (λ c. omega (arith, low c))
     (λ c. search rules)
     copy_requires
     loop_less

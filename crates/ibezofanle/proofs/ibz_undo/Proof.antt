@@ -4,16 +4,16 @@ use borrow.Author.Rules.{rules}
 use Rattle.ibezofanle.proofs.ibz_undo.Statement.{statement}
 use Rattle.ibezofanle.proofs.ibz_undo.Tie as tie
 
-returns : tie.Need-returns
-returns c = ibz_undo_nine _ _ _ _ _ c.if1.true
+returns : tie.Need-returns-then-block-ne-BLOCK_LENGTH
+returns c = ibz_undo_nine _ _ _ _ _ c.if-block-ne-BLOCK_LENGTH.true
 
-returns_2 : tie.Need-returns-2
+returns_2 : tie.Need-returns
 returns_2 c =
     let written = c.before.before in
     let called = written.before.before.before.before.before in
     let read = called.before.before.before in
-    let fits = read.before.before.if1.false in
-    ibz_undo_held _ _ _ _ _ fits _ _ _ _ read.slots_in.ensures called.undo.ensures _ written.put-block.ensures
+    let fits = read.before.if-block-ne-BLOCK_LENGTH.false in
+    ibz_undo_held _ _ _ _ _ fits _ _ _ _ read.slots_in-slots.ensures called.undo-a.ensures _ written.put_block.ensures
 
 pub ibz_undo_spec : {M : Type 1} → statement M
 ibz_undo_spec =

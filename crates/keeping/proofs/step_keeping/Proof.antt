@@ -3,10 +3,10 @@ use borrow.Author.Rules.{rules}
 use Rattle.keeping.proofs.step_keeping.Statement.{statement}
 use Rattle.keeping.proofs.step_keeping.Tie as tie
 
-step_taken_requires : tie.Need-step-taken-requires
+step_taken_requires : tie.Need-step_taken-requires
 step_taken_requires c κs =
     let d = c.before.before.before.before.before in
-    let q = step_may _ _ _ _ 0 _ _ _ d.before.step_number.ensures d.if1.true in
+    let q = step_may _ _ _ _ 0 _ _ _ d.before.step_number-number.ensures d.if-good.true-raw in
     (q.0, q.1, search rules, q.2)
 
 pub step_keeping_spec : {M : Type 1} → statement M

@@ -3,35 +3,23 @@ use borrow.Author.Rules.{rules}
 use Rattle.machine.proofs.step.Statement.{statement}
 use Rattle.machine.proofs.step.Tie as tie
 
-make_room_requires : tie.Need-make-room-requires
+make_room_requires : tie.Need-make_room-room-requires
 make_room_requires c κs =
-    let d = c.before.before.before in
-    step_inside _ _ _ _ 0 _ _ _ d.before.step_number.ensures d.if1.true
+    step_inside _ _ _ _ 0 _ _ _ c.step_number-number.ensures c.if-good.true-raw
 
-torn : tie.Need-returns
+torn : tie.Need-returns-then-torn
 torn c =
-    let r = c.before.before.before.before in
-    let d = c.before.before.before.before.before.before.before.before in
-    step_torn_promised _ _ _ _ _ _ _ _ d.before.step_number.ensures d.if1.true _ _ r.make_room.ensures c.if2.true
+    step_torn_promised _ _ _ _ _ _ _ _ c.step_number-number.ensures c.if-good.true-raw _ _ c.make_room-room.ensures c.if-torn.true-raw
 
-step_taken_requires : tie.Need-step-taken-requires
+step_taken_requires : tie.Need-step_taken-a-requires
 step_taken_requires c κs =
-    let t = c.before.before.before.before.before in
-    let r = c.before.before.before.before.before.before.before.before.before in
-    let b = c.before.before.before.before.before.before.before.before.before.before.before in
-    let d = c.before.before.before.before.before.before.before.before.before.before.before.before.before in
-    let q = step_may _ _ _ _ 0 _ _ _ d.before.step_number.ensures d.if1.true _ _ r.make_room.ensures t.if2.false b.bytes.ensures.1 in
+    let q = step_may _ _ _ _ 0 _ _ _ c.step_number-number.ensures c.if-good.true-raw _ _ c.make_room-room.ensures c.if-torn.false-raw c.bytes-size.ensures.1 in
     (q.0, q.1, search rules, q.2)
 
-taken : tie.Need-returns-2
+taken : tie.Need-returns-then-good
 taken c =
-    let e = c.before.before.before.before.before.step_taken.ensures in
-    let w = c.before.before.before.before.before.before.before.before in
-    let t = c.before.before.before.before.before.before.before.before.before.before.before in
-    let r = c.before.before.before.before.before.before.before.before.before.before.before.before.before.before.before in
-    let d = c.before.before.before.before.before.before.before.before.before.before.before.before.before.before.before.before.before.before.before in
-    let z = c.before.before.before.before.before.before.before.before.before.before.before.before.before.before.before.before.before.before.before.before.before.before.before.before.before.before.before in
-    step_promised _ _ _ _ z.args.vector _ _ _ d.before.step_number.ensures d.if1.true _ _ r.make_room.ensures t.if2.false w.wide.result w.wide.ensures.0 _ _ _ _ e.0 e.1.0 e.1.1.0 e.1.1.1.0
+    let e = c.step_taken-a.ensures in
+    step_promised _ _ _ _ c.args.vector _ _ _ c.step_number-number.ensures c.if-good.true-raw _ _ c.make_room-room.ensures c.if-torn.false-raw c.wide.result c.wide.ensures.0 _ _ _ _ e.0 e.1.0 e.1.1.0 e.1.1.1.0
 
 pub step_spec : {M : Type 1} → statement M
 step_spec =

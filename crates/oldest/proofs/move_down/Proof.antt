@@ -7,7 +7,7 @@ use Rattle.oldest.proofs.MoveLaws.{move_more}
 use Rattle.oldest.proofs.move_down.Statement.{statement}
 use Rattle.oldest.proofs.move_down.Tie as tie
 
-abbrev invariant_loop : tie.invariant_loop
+abbrev invariant_loop : tie.invariant-loop-i
 invariant_loop journal₀ start end i₀ k₀ journal i k =
     (start ≤ i)
     × (i ≤ end)
@@ -15,20 +15,20 @@ invariant_loop journal₀ start end i₀ k₀ journal i k =
     × (journal ≡ written journal₀ 0 (slice start i journal₀))
     × (length journal ≡ length journal₀)
 
-abbrev decreases_loop : tie.decreases_loop
+abbrev decreases_loop : tie.decreases-loop-i
 decreases_loop journal₀ start end i₀ k₀ journal i k = end - i
 
-loop_holds : tie.Need-loop-init invariant_loop decreases_loop
+loop_holds : tie.Need-loop-i-init invariant_loop decreases_loop
 loop_holds c =
     let l = c.args.journal.now in
     (omega arith, omega arith, omega arith, sym (rw (slice_empty c.args.start l) (written_none l 0)), refl)
 
-loop_again : tie.Need-loop-preserved invariant_loop decreases_loop
+loop_again : tie.Need-loop-i-preserved invariant_loop decreases_loop
 loop_again c =
     let s = c.before.before.before in
-    let q = c.before.before.loop in
+    let q = c.before.before.loop-i in
     let l = s.args.journal.now in
-    let test = c.before.loop-test.true in (
+    let test = c.before.loop-i-test.true in (
       omega arith,
       omega arith,
       omega arith,
@@ -39,7 +39,7 @@ loop_again c =
 returns : tie.Need-returns invariant_loop decreases_loop
 returns c =
     let s = c.before.before in
-    let q = c.before.loop in
+    let q = c.before.loop-i in
     let done : q.i ≡ s.args.end = omega arith in
     q.invariant.3 ∙ ap (λ (k : ℕ). written s.args.journal.now 0 (slice s.args.start k s.args.journal.now)) done
 

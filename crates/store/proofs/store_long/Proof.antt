@@ -9,29 +9,29 @@ use Rattle.store.proofs.store_long.Statement.{statement}
 use Rattle.store.proofs.store_long.Tie as tie
 
 -- what is known where the place is inside memory and above all that are noted
-module _ (c : tie.Then1) where
+module _ (c : tie.Then-p-memory) where
   abbrev s : tie.Start
-  s = c.before.before.before.before.before
+  s = c.before.before.before.before
 
   test : (pins s.args.a + 3 < length s.args.memory.now) × AllBelow s.args.log.now s.args.n (pins s.args.a)
   test =
       let a = ltb (pins s.args.a + 3) (length s.args.memory.now) in
       let b = c.before.above in
-      (ltb-true _ _ (and_left a b.result c.if1.true), b.ensures (and_right a b.result c.if1.true))
+      (ltb-true _ _ (and_left a b.result c.if-p-memory.true), b.ensures (and_right a b.result c.if-p-memory.true))
 
-long_above_requires : tie.Need-long-above-requires
+long_above_requires : tie.Need-long_above-requires
 long_above_requires c κs =
     let b = c.before.before in
     ((test b).0, (s b).requires.1, (s b).requires.0, (test b).1)
 
-returns : tie.Need-returns
-returns c = stored_above _ _ _ _ _ _ _ c.before.before.before.before.long-above.ensures
+returns : tie.Need-returns-then-p-memory
+returns c = stored_above _ _ _ _ _ _ _ c.before.before.before.before.long_above.ensures
 
-returns_2 : tie.Need-returns-2
+returns_2 : tie.Need-returns
 returns_2 c =
-    let g = c.before.before.before.before.before.before.before.before.before.before.before.before.Store-word in
-    let w = c.before.before.before.before.before.wrapping-add-u32 in
-    let h = c.before.before.before.before.store-word2 in
+    let g = c.before.before.before.before.before.before.before.before.before.before.before.before.store_word-m in
+    let w = c.before.before.before.before.before.wrapping_add_u32 in
+    let h = c.before.before.before.before.store_word in
     stored_long _ _ _ _ _ _ _ g.result w.result _ _ h.result g.ensures w.ensures h.ensures
 
 pub store_long_spec : {M : Type 1} → statement M

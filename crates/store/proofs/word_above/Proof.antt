@@ -4,15 +4,15 @@ use Rattle.store.proofs.StoreLaws.{stored_word_above}
 use Rattle.store.proofs.word_above.Statement.{statement}
 use Rattle.store.proofs.word_above.Tie as tie
 
-write_above_requires_2 : tie.Need-write-above-requires-2
+write_above_requires_2 : tie.Need-write_above-requires-2
 write_above_requires_2 c κs =
-    let g = c.before.before.before.before.before.before.write-above.ensures in
+    let g = c.before.before.before.before.before.before.write_above.ensures in
     (omega (arith, g.1.0.same), omega (arith, g.1.0.long), g.1.0.ok, g.1.1)
 
 returns : tie.Need-returns
 returns c =
-    let g = c.before.before.before.before.before.before.before.before.before.before.before.write-above in
-    let h = c.before.before.before.before.write-above2 in
+    let g = c.before.before.before.before.before.before.before.before.before.before.before.write_above in
+    let h = c.before.before.before.before.write_above-2 in
     stored_word_above _ _ _ _ _ _ _ _ _ (search rules) (search rules) g.ensures h.ensures
 
 pub word_above_spec : {M : Type 1} → statement M

@@ -6,4 +6,4 @@ use Rattle.taken.proofs.words.Tie as tie
 pub words_spec : {M : Type 1} → statement M
 words_spec =
     tie.close (tie.spec
-    (λ c κs. search rules) (λ c. (search rules, λ k. omega (arith, c.before.shared-slice-known.given k))))
+    (λ c κs. search rules) (λ c. (search rules, λ k. omega (arith, c.before.shared_slice_known-1.given k))))

@@ -11,27 +11,27 @@ use borrow.Author.Rules.{rules}
 use Rattle.touch.proofs.touch.Statement.{statement}
 use Rattle.touch.proofs.touch.Tie as tie
 
-returns : tie.Need-returns
+returns : tie.Need-returns-then-i-n
 returns c =
-    let s = c.before.before.before.before in
-    let below = rw c.if1.true at c.before.find-place.ensures.below in
+    let s = c.before.before.before in
+    let below = rw c.if-i-n.true at c.before.find_place-i.ensures.below in
     (omega arith, touch_last _ _ _ _ s.requires.0 s.ranges.old.fits below)
 
-returns_2 : tie.Need-returns-2
+returns_2 : tie.Need-returns-then-log-i
 returns_2 c =
     let d = c.before.before in
-    let f = d.before.find-place in
-    let n = d.before.before.before.before.args.n in
-    let below_n : f.result < n = omega (arith, f.ensures.within, d.if1.false) in
-    (omega arith, sym (touch_old _ _ _ n _ below_n (omega arith) f.ensures.below c.if2.true))
+    let f = d.before.find_place-i in
+    let n = d.before.before.before.args.n in
+    let below_n : f.result < n = omega (arith, f.ensures.within, d.if-i-n.false) in
+    (omega arith, sym (touch_old _ _ _ n _ below_n (omega arith) f.ensures.below c.if-log-i.true))
 
-returns_3 : tie.Need-returns-3
+returns_3 : tie.Need-returns
 returns_3 c =
     let d = c.before.before.before.before in
     let f = d.before.before.before in
-    let s = f.before.before.before in
-    let found = f.find-place.ensures in
-    let other = d.if2.false in
+    let s = f.before.before in
+    let found = f.find_place-i.ensures in
+    let other = d.if-log-i.false in
     let l = s.args.log.now in
     let n = s.args.n in
     let new = touch_new s.args.a s.args.old l n _ found.within (omega arith) found.below (λ q. let h = found.above q in omega arith) in

@@ -21,40 +21,40 @@ abbrev Z : tie.Start → List ℕ
 Z s = back (J s) s.args.mark
 
 -- the count of bytes
-module _ (c : tie.After-nb) where
+module _ (c : tie.In-Number) where
   abbrev s₁ : tie.Start
-  s₁ = c.before.before.before.before.before.before
+  s₁ = c.before.before.before.before.before
 
   abbrev nb : ℕ
-  nb = c.nb.given.0.0
+  nb = c.in-Number.nb
 
   abbrev p₁ : ℕ
-  p₁ = c.nb.given.0.1.0
+  p₁ = c.in-Number.e1
 
   g₁ : (read_number (Z s₁) ≡ got nb (back (J s₁) p₁)) × (p₁ < s₁.args.mark) × (nb < 2 ^ 32)
-  g₁ = number_got _ _ _ c.before.before.read_number.ensures nb p₁ c.nb.given.1
+  g₁ = number_got _ _ _ c.read_number.ensures nb p₁ c.in-Number.is
 
 -- the count of slots
-module _ (c : tie.After-ns) where
-  abbrev b₂ : tie.After-nb
-  b₂ = c.before.before.before.before.before
+module _ (c : tie.In-Number-read_number) where
+  abbrev b₂ : tie.In-Number
+  b₂ = c.before.before.before
 
   abbrev ns : ℕ
-  ns = c.ns.given.0.0
+  ns = c.in-Number-read_number.ns
 
   abbrev p₂ : ℕ
-  p₂ = c.ns.given.0.1.0
+  p₂ = c.in-Number-read_number.e2
 
   few : nb b₂ ≤ byte_limit
-  few = c.before.before.before.if1.false
+  few = c.if-nb-gt-BYTE_LIMIT.false
 
   g₂ : (read_number (back (J (s₁ b₂)) (p₁ b₂)) ≡ got ns (back (J (s₁ b₂)) p₂)) × (p₂ < p₁ b₂) × (ns < 2 ^ 32)
-  g₂ = number_got _ _ _ c.before.before.read-number2.ensures ns p₂ c.ns.given.1
+  g₂ = number_got _ _ _ c.read_number-2.ensures ns p₂ c.in-Number-read_number.is
 
 -- the bytes' changes
-module _ (c : tie.After-e3) where
-  abbrev b₃ : tie.After-ns
-  b₃ = c.before.before.before.before.before.before.before.before
+module _ (c : tie.In-From) where
+  abbrev b₃ : tie.In-Number-read_number
+  b₃ = c.before.before.before.before.before.before
 
   abbrev s₃ : tie.Start
   s₃ = s₁ (b₂ b₃)
@@ -63,73 +63,69 @@ module _ (c : tie.After-e3) where
   n₃ = nb (b₂ b₃)
 
   abbrev out₃ : List ℕ
-  out₃ = c.before.before.before.before.read_changes.new.1.1.1.1.0
+  out₃ = c.read_changes.new.out
 
   abbrev p₃ : ℕ
-  p₃ = c.e3.given.0.0
+  p₃ = c.in-From.e3
 
   few₃ : ns b₃ ≤ slot_limit
-  few₃ = c.before.before.before.before.before.before.if2.false
+  few₃ = c.if-ns-gt-SLOT_LIMIT.false
 
   g₃ : (read_changes n₃ s₃.args.len (back (J s₃) (p₂ b₃)) [] ≡ parsed (changes out₃ n₃) (back (J s₃) p₃)) × (p₃ ≤ p₂ b₃)
       × Ascending 0 s₃.args.len (changes out₃ n₃)
-  g₃ = run_from _ _ _ _ _ _ c.before.before.before.before.read_changes.ensures p₃ c.e3.given.1
+  g₃ = run_from _ _ _ _ _ _ c.read_changes.ensures p₃ c.in-From.is
 
-returns : tie.Need-returns
-returns c = record_bad _ _ (number_bad _ _ _ c.before.before.read_number.ensures c.enum_told.given.1)
+returns : tie.Need-returns-in_default
+returns c = record_bad _ _ (number_bad _ _ _ c.read_number.ensures c.in_default.is)
 
-returns_2 : tie.Need-returns-2
-returns_2 c = record_many _ _ _ _ (g₁ c.before.before).0 c.if1.true
+returns_2 : tie.Need-returns-then-nb-gt-BYTE_LIMIT
+returns_2 c = record_many _ _ _ _ (g₁ c.before).0 c.if-nb-gt-BYTE_LIMIT.true
 
-read_number_requires_2 : tie.Need-read-number-requires-2
-read_number_requires_2 c κs = omega (arith, (g₁ c.before.before).1)
+read_number_requires_2 : tie.Need-read_number-requires-2
+read_number_requires_2 c κs = omega (arith, (g₁ c.before).1)
 
-returns_3 : tie.Need-returns-3
+returns_3 : tie.Need-returns-in_default-read_number
 returns_3 c =
-    let b = c.before.before.before.before.before in
-    let few = c.before.before.before.if1.false in
-    record_bad_2 _ _ _ _ (g₁ b).0 few (number_bad _ _ _ c.before.before.read-number2.ensures c.enum-told2.given.1)
+    let b = c.before.before.before in
+    let few = c.if-nb-gt-BYTE_LIMIT.false in
+    record_bad_2 _ _ _ _ (g₁ b).0 few (number_bad _ _ _ c.read_number-2.ensures c.in_default-read_number.is)
 
-returns_4 : tie.Need-returns-4
+returns_4 : tie.Need-returns-then-ns-gt-SLOT_LIMIT
 returns_4 c =
-    let d = c.before.before in
-    record_many_2 _ _ _ _ (g₁ (b₂ d)).0 (few d) _ _ (g₂ d).0 c.if2.true
+    let d = c.before in
+    record_many_2 _ _ _ _ (g₁ (b₂ d)).0 (few d) _ _ (g₂ d).0 c.if-ns-gt-SLOT_LIMIT.true
 
-read_changes_requires : tie.Need-read-changes-requires
+read_changes_requires : tie.Need-read_changes-requires
 read_changes_requires c κs =
-    let d = c.before.before.before in
+    let d = c.before.before in
     let h = few d in
     (omega (arith, (g₁ (b₂ d)).1, (g₂ d).1), omega arith)
 
-returns_5 : tie.Need-returns-5
+returns_5 : tie.Need-returns-in_default-read_changes
 returns_5 c =
-    let t = c.before.before.before.before in
-    let d = t.before.before.before.before in
-    let run = run_broken _ _ _ _ _ _ t.read_changes.ensures c.enum-told3.given.1 in
-    record_broken _ _ _ _ (g₁ (b₂ d)).0 (few d) _ _ (g₂ d).0 t.before.before.if2.false run
+    let d = c.before.before.before.before.before.before in
+    let run = run_broken _ _ _ _ _ _ c.read_changes.ensures c.in_default-read_changes.is in
+    record_broken _ _ _ _ (g₁ (b₂ d)).0 (few d) _ _ (g₂ d).0 c.if-ns-gt-SLOT_LIMIT.false run
 
-read_changes_requires_2 : tie.Need-read-changes-requires-2
+read_changes_requires_2 : tie.Need-read_changes-requires-2
 read_changes_requires_2 c κs =
-    let e = c.before.before in
+    let e = c.before in
     let d = b₃ e in
     let pre = (s₃ e).requires in
     (omega (arith, pre, (g₁ (b₂ d)).1, (g₂ d).1, (g₃ e).1), omega (arith, pre, few₃ e))
 
-returns_6 : tie.Need-returns-6
+returns_6 : tie.Need-returns-in_default-read_changes-2
 returns_6 c =
-    let t = c.before.before.before.before in
-    let e = t.before.before.before in
+    let e = c.before.before.before.before.before in
     let d = b₃ e in
-    let run = run_broken _ _ _ _ _ _ t.read-changes2.ensures c.enum-told4.given.1 in
+    let run = run_broken _ _ _ _ _ _ c.read_changes-2.ensures c.in_default-read_changes-2.is in
     record_broken_2 _ _ _ _ (g₁ (b₂ d)).0 (few d) _ _ (g₂ d).0 (few₃ e) _ _ (g₃ e).0 run
 
-returns_7 : tie.Need-returns-7
+returns_7 : tie.Need-returns
 returns_7 c =
-    let t = c.before.before.before.before.before in
-    let e = t.before.before.before in
+    let e = c.before.before.before.before.before in
     let d = b₃ e in
-    let y = c.before.e4.given in
-    let k = run_from _ _ _ _ _ _ t.read-changes2.ensures y.0.0 y.1 in (
+    let k = run_from _ _ _ _ _ _ c.read_changes-2.ensures c.in-From-read_changes.e4 c.in-From-read_changes.is in (
       record_found _ _ _ _ (g₁ (b₂ d)).0 (few d) _ _ (g₂ d).0 (few₃ e) _ _ (g₃ e).0 _ _ k.0,
       omega (arith, (g₁ (b₂ d)).1, (g₂ d).1, (g₃ e).1, k.1),
       few₃ e,

@@ -14,67 +14,67 @@ use Rattle.undo.proofs.shaped_record.Statement.{statement}
 use Rattle.undo.proofs.shaped_record.Tie as tie
 
 -- what reading the record gives, once: a need further on goes back to the place
-module _ (c : tie.After-ns) where
-  abbrev g₁ : tie.After-read-record
-  g₁ = c.before.before.before.before.before.before
+module _ (c : tie.In-Found) where
+  abbrev g₁ : tie.After-read_record
+  g₁ = c.before.before.before.before.before
 
   abbrev a : tie.Start
   a = g₁.before.before.before.before.before.before
 
   abbrev slots : List ℕ
-  slots = g₁.read_record.last.1.1.1.0
+  slots = g₁.read_record.new.slots
 
   abbrev bytes : List ℕ
-  bytes = g₁.read_record.last.1.1.1.1.0
+  bytes = g₁.read_record.new.bytes
 
   abbrev ns : ℕ
-  ns = c.ns.given.0.0
+  ns = c.in-Found.ns
 
   abbrev nb : ℕ
-  nb = c.ns.given.0.1.0
+  nb = c.in-Found.nb
 
   abbrev start : ℕ
-  start = c.ns.given.0.1.1.0
+  start = c.in-Found.start
 
   there : let j = a.args.journal.now in
       RecordIs (read_record a.args.len (back j a.args.mark)) a.args.len j a.args.mark slots bytes (Found ns nb start)
-  there = record_there _ _ _ _ _ _ _ g₁.read_record.ensures ns nb start c.ns.given.1
+  there = record_there _ _ _ _ _ _ _ g₁.read_record.ensures ns nb start c.in-Found.is
 
-returns : tie.Need-returns
+returns : tie.Need-returns-in_default
 returns c =
-    let g = c.before.before.before.before.before.before.read_record in
-    shaped_none _ _ (record_nothing _ _ _ _ g.new.1.1.1.0 g.new.1.1.1.1.0 _ g.ensures c.enum_told.given.1)
+    let g = c.read_record in
+    shaped_none _ _ (record_nothing _ _ _ _ g.new.slots g.new.bytes _ g.ensures c.in_default.is)
 
-all_valid_requires : tie.Need-all-valid-requires
-all_valid_requires c κs = let d = c.before.before in omega (arith, (there d).2, (g₁ d).read_record.auto.1.1.1.0)
+all_valid_requires : tie.Need-all_valid-requires
+all_valid_requires c κs = let d = c in omega (arith, (there d).2, (g₁ d).read_record.auto.slots)
 
-returns_2 : tie.Need-returns-2
+returns_2 : tie.Need-returns-then-not-all_valid
 returns_2 c =
-    let d = c.before.before.before.before in
-    let g = c.before.all_valid in
-    shaped_slots _ _ _ _ _ (there d).0 (sym g.ensures ∙ not-true g.result c.if1.true)
+    let d = c.before.before in
+    let g = c.all_valid in
+    shaped_slots _ _ _ _ _ (there d).0 (sym g.ensures ∙ not-true g.result c.if-not-all_valid.true-raw)
 
-all_valid_requires_2 : tie.Need-all-valid-requires-2
+all_valid_requires_2 : tie.Need-all_valid-requires-2
 all_valid_requires_2 c κs =
-    let d = c.before.before.before.before.before in
-    omega (arith, (there d).3, (g₁ d).read_record.auto.1.1.1.1.0)
+    let d = c.before.before in
+    omega (arith, (there d).3, (g₁ d).read_record.auto.bytes)
 
-returns_3 : tie.Need-returns-3
+returns_3 : tie.Need-returns-then-not-all_valid-2
 returns_3 c =
-    let d = c.before.before.before.before.before.before.before in
-    let g = c.before.before.before.before.all_valid in
-    let h = c.before.all-valid2 in
-    let ok = not-false g.result c.before.before.before.if1.false in
-    shaped_bytes _ _ _ _ _ (there d).0 (sym g.ensures ∙ ok) (sym h.ensures ∙ not-true h.result c.if2.true)
+    let d = c.before.before.before.before in
+    let g = c.all_valid in
+    let h = c.all_valid-2 in
+    let ok = not-false g.result c.if-not-all_valid.false-raw in
+    shaped_bytes _ _ _ _ _ (there d).0 (sym g.ensures ∙ ok) (sym h.ensures ∙ not-true h.result c.if-not-all_valid-2.true-raw)
 
-returns_4 : tie.Need-returns-4
+returns_4 : tie.Need-returns
 returns_4 c =
-    let d = c.before.before.before.before.before.before.before in
-    let g = c.before.before.before.before.all_valid in
-    let h = c.before.all-valid2 in
-    let ok = not-false g.result c.before.before.before.if1.false in
+    let d = c.before.before.before.before in
+    let g = c.all_valid in
+    let h = c.all_valid-2 in
+    let ok = not-false g.result c.if-not-all_valid.false-raw in
     let t = there d in (
-      shaped_found _ _ _ _ _ t.0 (sym g.ensures ∙ ok) (sym h.ensures ∙ not-false h.result c.if2.false),
+      shaped_found _ _ _ _ _ t.0 (sym g.ensures ∙ ok) (sym h.ensures ∙ not-false h.result c.if-not-all_valid-2.false-raw),
       t.1,
       t.2,
       t.3,

@@ -12,47 +12,47 @@ use borrow.Author.Rules.{rules}
 use Rattle.undo.proofs.slots_differ.Statement.{statement}
 use Rattle.undo.proofs.slots_differ.Tie as tie
 
-abbrev invariant_loop : tie.invariant_loop
+abbrev invariant_loop : tie.invariant-loop-i
 invariant_loop slots log n i₀ i = (i ≤ n) × (differs slots (between i n log) ≡ differs slots (changes log n))
 
-abbrev decreases_loop : tie.decreases_loop
+abbrev decreases_loop : tie.decreases-loop-i
 decreases_loop slots log n i₀ i = n - i
 
-loop_holds : tie.Need-loop-init invariant_loop decreases_loop
+loop_holds : tie.Need-loop-i-init invariant_loop decreases_loop
 loop_holds c = (omega arith, refl)
 
 -- in a turn: the entry, and its place
-module _ (d : tie.In-loop invariant_loop decreases_loop) where
+module _ (d : tie.In-loop-i invariant_loop decreases_loop) where
   abbrev s : tie.Start invariant_loop decreases_loop
   s = d.before.before
 
   abbrev x : ℕ
-  x = get_or s.args.log.now d.before.loop.i 0
+  x = get_or s.args.log.now d.before.loop-i.i 0
 
   inside : x / 2 ^ 32 < length s.args.slots.now
-  inside = ascending_at 0 _ _ _ _ s.pre.1 d.loop-test.taken (omega arith)
+  inside = ascending_at 0 _ _ _ _ s.requires.1 d.loop-i-test.true (omega arith)
 
-mul_if1 : tie.Need-overflow-mul-if1 invariant_loop decreases_loop
+mul_if1 : tie.Need-offset_bounds-slots-a invariant_loop decreases_loop
 mul_if1 c = let h = inside c.before in search rules
 
-shared_slice_read_if1 : tie.Need-shared-slice-read-if1 invariant_loop decreases_loop
+shared_slice_read_if1 : tie.Need-bounds-slots-a invariant_loop decreases_loop
 shared_slice_read_if1 c = inside c.before.before
 
-cast_if1 : tie.Need-overflow-cast-if1 invariant_loop decreases_loop
-cast_if1 c = omega (arith, c.shared-slice-known2.given (x c.before.before / 2 ^ 32))
+cast_if1 : tie.Need-overflow_cast-slots invariant_loop decreases_loop
+cast_if1 c = omega (arith, c.shared_slice_known-in-loop-i-1.given (x c.before.before / 2 ^ 32))
 
-returns : tie.Need-returns invariant_loop decreases_loop
+returns : tie.Need-returns-then-e-slots invariant_loop decreases_loop
 returns c =
     let d = c.before.before.before in
-    sym (sym d.before.loop.invariant.1 ∙ differs_not _ _ _ d.loop-test.true (search rules) _ c.if1.true)
+    sym (sym d.before.loop-i.invariant.1 ∙ differs_not _ _ _ d.loop-i-test.true (search rules) _ c.if-e-slots.true)
 
-loop_again : tie.Need-loop-preserved invariant_loop decreases_loop
+loop_again : tie.Need-loop-i-preserved invariant_loop decreases_loop
 loop_again c =
     let d = c.before.before.before in
-    (omega arith, sym (differs_next _ _ _ d.loop-test.true (search rules) _ c.if1.false) ∙ d.before.loop.invariant.1)
+    (omega arith, sym (differs_next _ _ _ d.loop-i-test.true (search rules) _ c.if-e-slots.false) ∙ d.before.loop-i.invariant.1)
 
-returns_2 : tie.Need-returns-2 invariant_loop decreases_loop
-returns_2 c = let q = c.before.loop.invariant in rw (← q.1, between_past _ _ _ q.0 c.loop-test.false)
+returns_2 : tie.Need-returns invariant_loop decreases_loop
+returns_2 c = let q = c.before.loop-i.invariant in rw (← q.1, between_past _ _ _ q.0 c.loop-i-test.false)
 
 pub slots_differ_spec : {M : Type 1} → statement M
 slots_differ_spec =

@@ -13,14 +13,14 @@ use borrow.Author.Rules.{rules}
 use Rattle.runs.proofs.put.put_olds.Statement.{statement}
 use Rattle.runs.proofs.put.put_olds.Tie as tie
 
-abbrev invariant_loop : tie.invariant_loop
+abbrev invariant_loop : tie.invariant-loop-k
 invariant_loop out₀ at log i n k₀ p₀ out k p = (k ≤ n) × Left out₀ at (numbers_bytes (olds (between i n log))) out p
     (numbers_bytes (olds (between k n log)))
 
-abbrev decreases_loop : tie.decreases_loop
+abbrev decreases_loop : tie.decreases-loop-k
 decreases_loop out₀ at log i n k₀ p₀ out k p = n - k
 
-loop_holds : tie.Need-loop-init invariant_loop decreases_loop
+loop_holds : tie.Need-loop-k-init invariant_loop decreases_loop
 loop_holds c =
     let a = c.before.before.args in
     let w = numbers_bytes (olds (between a.i a.n a.log.now)) in
@@ -43,28 +43,28 @@ module _ (s : tie.Start invariant_loop decreases_loop) (k : ℕ) where
   abbrev rest : List ℕ
   rest = numbers_bytes (olds (between k s.args.n log))
 
-put_number_requires : tie.Need-put-number-requires invariant_loop decreases_loop
+put_number_requires : tie.Need-put_number-p-requires invariant_loop decreases_loop
 put_number_requires c κs =
     let s = c.before.before.before.before.before.before in
-    let q = c.before.before.before.loop in
+    let q = c.before.before.before.loop-k in
     left_room s.args.out.now s.args.at (all s q.k) s.requires.2 q.out q.p (rest s q.k) (lo s q.k) (more s q.k)
-    (olds_rest (log s q.k) q.k s.args.n c.before.before.loop-test.true s.requires.1) q.invariant.1
+    (olds_rest (log s q.k) q.k s.args.n c.before.before.loop-k-test.true s.requires.1) q.invariant.1
 
-loop_again : tie.Need-loop-preserved invariant_loop decreases_loop
+loop_again : tie.Need-loop-k-preserved invariant_loop decreases_loop
 loop_again c =
     let s = c.before.before.before.before.before.before.before.before.before in
-    let q = c.before.before.before.before.before.before.loop in
-    let x = c.before.before.put-number in (
+    let q = c.before.before.before.before.before.before.loop-k in
+    let x = c.before.before.put_number-p in (
       omega arith,
       left_step s.args.out.now s.args.at (all s q.k) s.requires.2 q.out q.p (rest s q.k) (lo s q.k) (more s q.k)
-          (olds_rest (log s q.k) q.k s.args.n c.before.before.before.before.before.loop-test.true s.requires.1) q.invariant.1
-          x.result x.new.0 x.ensures.0 x.ensures.1,
+          (olds_rest (log s q.k) q.k s.args.n c.before.before.before.before.before.loop-k-test.true s.requires.1) q.invariant.1
+          x.result x.new.journal x.ensures.0 x.ensures.1,
     )
 
 returns : tie.Need-returns invariant_loop decreases_loop
 returns c =
     let s = c.before.before.before.before in
-    let q = c.before.loop in
+    let q = c.before.loop-k in
     left_end s.args.out.now s.args.at (all s q.k) q.out q.p (rest s q.k)
     (olds_none (log s q.k) q.k s.args.n q.invariant.0 (omega arith)) q.invariant.1
 

@@ -33,42 +33,42 @@ module _ (s : tie.Start) where
     first = get_or s.args.log.now s.args.i 0 / 2 ^ 32;
     olds = olds (between s.args.i s.args.n s.args.log.now);
   }) ≡ b ++ (f ++ d)
-  parts = run_parts s.args.log.now s.args.i s.args.n s.pre.1
+  parts = run_parts s.args.log.now s.args.i s.args.n s.requires.1
 
   fits : at + length (b ++ (f ++ d)) ≤ length O
-  fits = rw parts at s.pre.3
+  fits = rw parts at s.requires.3
 
-cast_first : tie.Need-overflow-cast-first
-cast_first c = omega (arith, c.shared-slice-known2.given c.before.before.before.args.i)
+cast_first : tie.Need-overflow_cast-first
+cast_first c = omega (arith, c.shared_slice_known-2-1.given c.before.before.before.args.i)
 
-put_olds_requires : tie.Need-put-olds-requires
+put_olds_requires : tie.Need-put_olds-p-requires
 put_olds_requires c κs =
     let s = c.before.before.before.before in
     (omega arith, omega arith, room_2 (O s) (at s) [] (b s) (f s) (d s) (fits s) (at s) (O s) (put_none (O s) (at s)))
 
-put_number_requires : tie.Need-put-number-requires
+put_number_requires : tie.Need-put_number-q-requires
 put_number_requires c κs =
     let s = c.before.before.before.before.before.before.before.before in
-    let x = c.before.before.before.put-olds in
-    room_3 (O s) (at s) [] (b s) (f s) (d s) (fits s) (at s) (O s) (put_none (O s) (at s)) x.result x.new.0 x.ensures
+    let x = c.before.before.before.put_olds-p in
+    room_3 (O s) (at s) [] (b s) (f s) (d s) (fits s) (at s) (O s) (put_none (O s) (at s)) x.result x.new.out x.ensures
 
-put_number_requires_2 : tie.Need-put-number-requires-2
+put_number_requires_2 : tie.Need-put_number-requires
 put_number_requires_2 c κs =
     let s = c.before.before.before.before.before.before.before.before.before.before.before.before in
-    let x = c.before.before.before.before.before.before.before.put-olds in
-    let y = c.before.before.before.put-number in
-    room_4 (O s) (at s) [] (b s) (f s) (d s) (fits s) (at s) (O s) (put_none (O s) (at s)) x.result x.new.0 x.ensures y.result
-    y.new.0 (record { place = y.ensures.0; bytes = y.ensures.1 })
+    let x = c.before.before.before.before.before.before.before.put_olds-p in
+    let y = c.before.before.before.put_number-q in
+    room_4 (O s) (at s) [] (b s) (f s) (d s) (fits s) (at s) (O s) (put_none (O s) (at s)) x.result x.new.out x.ensures y.result
+    y.new.journal (record { place = y.ensures.0; bytes = y.ensures.1 })
 
 returns : tie.Need-returns
 returns c =
     let s = c.before.before.before.before.before.before.before.before.before.before.before.before.before.before.before in
-    let x = c.before.before.before.before.before.before.before.before.before.before.put-olds in
-    let y = c.before.before.before.before.before.before.put-number in
-    let z = c.before.before.put-number2 in
-    rw (parts s) (all_put (O s) (at s) [] (b s) (f s) (d s) (fits s) (at s) (O s) (put_none (O s) (at s)) x.result x.new.0 x.ensures
-    y.result y.new.0 (record { place = y.ensures.0; bytes = y.ensures.1 })
-    z.result z.new.0 (record { place = z.ensures.0; bytes = z.ensures.1 }))
+    let x = c.before.before.before.before.before.before.before.before.before.before.put_olds-p in
+    let y = c.before.before.before.before.before.before.put_number-q in
+    let z = c.before.before.put_number in
+    rw (parts s) (all_put (O s) (at s) [] (b s) (f s) (d s) (fits s) (at s) (O s) (put_none (O s) (at s)) x.result x.new.out x.ensures
+    y.result y.new.journal (record { place = y.ensures.0; bytes = y.ensures.1 })
+    z.result z.new.journal (record { place = z.ensures.0; bytes = z.ensures.1 }))
 
 pub put_run_spec : {M : Type 1} → statement M
 put_run_spec =

@@ -13,65 +13,65 @@ use borrow.Author.Rules.{rules}
 use Rattle.runs.proofs.read.read_olds.Statement.{statement}
 use Rattle.runs.proofs.read.read_olds.Tie as tie
 
-abbrev invariant_loop : tie.invariant_loop
+abbrev invariant_loop : tie.invariant-loop-k
 invariant_loop journal end n first out₀ at k₀ e₀ out k e =
     (k ≤ n) × (e ≤ end) × (length out ≡ length out₀)
     × (read_olds n first (back journal end) (between (at + n) byte_limit out₀) ≡ read_olds k first (back journal e) (between (at + k) byte_limit out))
 
-abbrev decreases_loop : tie.decreases_loop
+abbrev decreases_loop : tie.decreases-loop-k
 decreases_loop journal end n first out₀ at k₀ e₀ out k e = k
 
-loop_holds : tie.Need-loop-init invariant_loop decreases_loop
+loop_holds : tie.Need-loop-k-init invariant_loop decreases_loop
 loop_holds c = (omega arith, omega arith, refl, refl)
 
-returns : tie.Need-returns invariant_loop decreases_loop
+returns : tie.Need-returns-in_default invariant_loop decreases_loop
 returns c =
-    let s = c.before.before.before.before.before.before.before in
-    let q = c.before.before.before.before.loop in
+    let s = c.before.before.before.before.before.before in
+    let q = c.loop-k in
     let j = s.args.journal.now in
-    let t = c.before.before.read_number in (
+    let t = c.read_number in (
       q.invariant.3 ∙ old_bad q.k s.args.first (back j q.e) (between (s.args.at + q.k) byte_limit q.out)
-          c.before.before.before.loop-test.true (number_bad j q.e t.result t.ensures c.enum_told.given.1),
+          c.loop-k-test.true (number_bad j q.e t.result t.ensures c.in_default.is),
       q.invariant.2,
     )
 
-returns_2 : tie.Need-returns-2 invariant_loop decreases_loop
+returns_2 : tie.Need-returns-then-old-ge256 invariant_loop decreases_loop
 returns_2 c =
-    let s = c.before.before.before.before.before.before.before.before.before in
-    let q = c.before.before.before.before.before.before.loop in
+    let s = c.before.before.before.before.before.before.before in
+    let q = c.loop-k in
     let j = s.args.journal.now in
-    let t = c.before.before.before.before.read_number in
-    let o = c.before.before.old.given in
-    let g = number_got j q.e t.result t.ensures o.0.0 o.0.1.0 o.1 in (
+    let t = c.read_number in
+    let o = c.in-Number in
+    let g = number_got j q.e t.result t.ensures o.old o.e1 o.is in (
       q.invariant.3 ∙ old_large q.k s.args.first (back j q.e) (between (s.args.at + q.k) byte_limit q.out)
-          c.before.before.before.before.before.loop-test.true o.0.0 (back j o.0.1.0) g.0 c.if1.true,
+          c.loop-k-test.true o.old (back j o.e1) g.0 c.if-old-ge256.true,
       q.invariant.2,
     )
 
-loop_again : tie.Need-loop-preserved invariant_loop decreases_loop
+loop_again : tie.Need-loop-k-preserved invariant_loop decreases_loop
 loop_again c =
-    let s = c.before.before.before.before.before.before.before.before.before in
-    let q = c.before.before.before.before.before.before.loop in
+    let s = c.before.before.before.before.before.before.before in
+    let q = c.loop-k in
     let j = s.args.journal.now in
-    let t = c.before.before.before.before.read_number in
-    let o = c.before.before.old.given in
-    let g = number_got j q.e t.result t.ensures o.0.0 o.0.1.0 o.1 in
-    let more = c.before.before.before.before.before.loop-test.true in
+    let t = c.read_number in
+    let o = c.in-Number in
+    let g = number_got j q.e t.result t.ensures o.old o.e1 o.is in
+    let more = c.loop-k-test.true in
     let a = s.args.first in
     let at = s.args.at in
     let acc = between (at + q.k) byte_limit q.out in
-    let one = old_read q.k a (back j q.e) acc more o.0.0 (back j o.0.1.0) g.0 c.if1.false in
-    let new = filled_at q.out at q.k byte_limit (a + (q.k - 1)) o.0.0 more (omega arith) (omega arith) g.2 in (
+    let one = old_read q.k a (back j q.e) acc more o.old (back j o.e1) g.0 c.if-old-ge256.false in
+    let new = filled_at q.out at q.k byte_limit (a + (q.k - 1)) o.old more (omega arith) (omega arith) g.2 in (
       omega arith,
       omega (arith, g.1),
-      length-set q.out (at + (q.k - 1)) ((a + (q.k - 1)) * 2 ^ 32 + o.0.0) ∙ q.invariant.2,
-      q.invariant.3 ∙ one ∙ ap (read_olds (q.k - 1) a (back j o.0.1.0)) (sym new),
+      length-set q.out (at + (q.k - 1)) ((a + (q.k - 1)) * 2 ^ 32 + o.old) ∙ q.invariant.2,
+      q.invariant.3 ∙ one ∙ ap (read_olds (q.k - 1) a (back j o.e1)) (sym new),
     )
 
-returns_3 : tie.Need-returns-3 invariant_loop decreases_loop
+returns_3 : tie.Need-returns invariant_loop decreases_loop
 returns_3 c =
     let s = c.before.before.before.before in
-    let q = c.before.loop in
+    let q = c.before.loop-k in
     let end : q.k ≡ 0 = omega arith in
     let at : s.args.at + 0 ≡ s.args.at = omega arith in
     (q.invariant.3 ∙ rw (end, at), q.invariant.1, q.invariant.2)

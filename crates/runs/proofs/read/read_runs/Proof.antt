@@ -15,15 +15,15 @@ use borrow.Author.Rules.{rules}
 use Rattle.runs.proofs.read.read_runs.Statement.{statement}
 use Rattle.runs.proofs.read.read_runs.Tie as tie
 
-abbrev invariant_loop : tie.invariant_loop
+abbrev invariant_loop : tie.invariant-loop-k
 invariant_loop journal end n out₀ k₀ e₀ lim₀ room₀ out k e lim room =
     (k ≤ n) × (e ≤ end) × (length out ≡ length out₀) × (lim ≤ suc Addresses) × (room ≤ byte_limit)
     × (read_runs n (suc Addresses) byte_limit (back journal end) [] ≡ read_runs k lim room (back journal e) (between room byte_limit out))
 
-abbrev decreases_loop : tie.decreases_loop
+abbrev decreases_loop : tie.decreases-loop-k
 decreases_loop journal end n out₀ k₀ e₀ lim₀ room₀ out k e lim room = k
 
-loop_holds : tie.Need-loop-init invariant_loop decreases_loop
+loop_holds : tie.Need-loop-k-init invariant_loop decreases_loop
 loop_holds c =
     let a = c.before.before.args in (
       omega arith,
@@ -34,39 +34,39 @@ loop_holds c =
       ap (read_runs a.n (suc Addresses) byte_limit (back a.journal.now a.end)) (sym (between_none a.out.now byte_limit)),
     )
 
-returns : tie.Need-returns invariant_loop decreases_loop
+returns : tie.Need-returns-in_default invariant_loop decreases_loop
 returns c =
-    let s = c.before.before.before.before.before.before.before.before.before.before in
-    let q = c.before.before.before.before.before.before.before.loop in
+    let s = c.before.before.before.before.before.before.before.before.before in
+    let q = c.loop-k in
     let j = s.args.journal.now in
-    let x = c.before.before.before.before.read-run in
-    let g = run_broken j q.e q.lim q.room q.out x.new.1.1.1.1.0 x.result x.ensures c.enum_told.given.1 in
+    let x = c.read_run in
+    let g = run_broken j q.e q.lim q.room q.out x.new.out x.result x.ensures c.in_default.is in
     q.invariant.5 ∙ runs_none q.k q.lim q.room (back j q.e) (between q.room byte_limit q.out)
-    c.before.before.before.before.before.before.loop-test.true g.0
+    c.loop-k-test.true g.0
 
-loop_again : tie.Need-loop-preserved invariant_loop decreases_loop
+loop_again : tie.Need-loop-k-preserved invariant_loop decreases_loop
 loop_again c =
-    let s = c.before.before.before.before.before.before.before.before.before.before.before in
-    let q = c.before.before.before.before.before.before.before.before.loop in
+    let s = c.before.before.before.before.before.before.before.before.before in
+    let q = c.loop-k in
     let j = s.args.journal.now in
-    let x = c.before.before.before.before.before.read-run in
-    let out = x.new.1.1.1.1.0 in
-    let p = c.before.s.given.0.0 in
-    let at = c.before.s.given.0.1.0 in
-    let a = c.before.s.given.0.1.1.0 in
-    let g = run_at j q.e q.lim q.room q.out out x.result x.ensures p at a c.before.s.given.1 in (
+    let x = c.read_run in
+    let out = x.new.out in
+    let p = c.in-At.s in
+    let at = c.in-At.at in
+    let a = c.in-At.first in
+    let g = run_at j q.e q.lim q.room q.out out x.result x.ensures p at a c.in-At.is in (
       omega arith,
       omega (arith, g.1),
       g.4 ∙ q.invariant.2,
       omega (arith, g.3),
       omega (arith, g.2),
       q.invariant.5 ∙ runs_next q.k q.lim q.room (back j q.e) (between q.room byte_limit q.out) a at (back j p)
-          (between at byte_limit out) c.before.before.before.before.before.before.before.loop-test.true g.0,
+          (between at byte_limit out) c.loop-k-test.true g.0,
     )
 
-returns_2 : tie.Need-returns-2 invariant_loop decreases_loop
+returns_2 : tie.Need-returns invariant_loop decreases_loop
 returns_2 c =
-    let q = c.before.loop in
+    let q = c.before.loop-k in
     let end : q.k ≡ 0 = omega arith in
     (q.invariant.5 ∙ rw end, q.invariant.1, q.invariant.4)
 

@@ -5,28 +5,28 @@ use borrow.Author.Rules.{rules}
 use Rattle.starts.proofs.near.entry_below.Statement.{statement}
 use Rattle.starts.proofs.near.entry_below.Tie as tie
 
-sub_result : tie.Need-overflow-sub-result
+sub_result : tie.Need-overflow_sub-result
 sub_result c = search rules
 
-returns : tie.Need-returns
+returns : tie.Need-returns-then-i-gt0
 returns c =
     let s = c.before.before in
-    below_there s.args.near.now s.args.i c.if1.true s.requires.0
+    below_there s.args.near.now s.args.i c.if-i-gt0.true s.requires.0
 
-keep_oldest_requires : tie.Need-keep-oldest-requires
+keep_oldest_requires : tie.Need-keep_oldest-requires
 keep_oldest_requires c κs = search rules
 
-sub_result_2 : tie.Need-overflow-sub-result-2
+sub_result_2 : tie.Need-overflow_sub-result-2
 sub_result_2 c = search rules
 
-same_length : tie.Need-same-length
+same_length : tie.Need-shape_of-near
 same_length c = search rules
 
-returns_2 : tie.Need-returns-2
+returns_2 : tie.Need-returns
 returns_2 c =
     let s = c.before.before.before.before.before.before in
-    let k = c.before.before.keep-oldest in
-    below_half s.args.near.now s.args.i k.new.0 k.result (omega (arith, c.before.before.before.before.if1.false)) k.ensures
+    let k = c.before.before.keep_oldest in
+    below_half s.args.near.now s.args.i k.new.near k.result (omega (arith, c.before.before.before.before.if-i-gt0.false)) k.ensures
 
 pub entry_below_spec : {M : Type 1} → statement M
 entry_below_spec =

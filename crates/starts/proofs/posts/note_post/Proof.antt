@@ -7,19 +7,19 @@ use borrow.Author.Rules.{rules}
 use Rattle.starts.proofs.posts.note_post.Statement.{statement}
 use Rattle.starts.proofs.posts.note_post.Tie as tie
 
-div_at : tie.Need-nonzero-div-at
+div_at : tie.Need-nonzero_div-at
 div_at c = search rules
 
-rem_at : tie.Need-nonzero-rem-at
+rem_at : tie.Need-nonzero_rem-at
 rem_at c = search rules
 
-mul_posts : tie.Need-overflow-mul-posts
+mul_posts : tie.Need-offset_bounds-posts-at
 mul_posts c = omega (arith, mod-lt (c.args.x / c.args.spread) {m = length c.args.posts.now} c.requires.1)
 
-slice_write_posts : tie.Need-slice-write-posts
+slice_write_posts : tie.Need-bounds-posts-at
 slice_write_posts c = mod-lt (c.args.x / c.args.spread) {m = length c.args.posts.now} c.requires.1
 
-same_length : tie.Need-same-length
+same_length : tie.Need-shape_of-posts
 same_length c = search rules
 
 returns : tie.Need-returns
