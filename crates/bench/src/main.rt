@@ -12,6 +12,8 @@
 // 1,048,576. The ROM is all 0; its length is a number that no compiler knows, so that what a step pays for it is counted.
 // A memory above 65,536 bytes needs a stack of 64 MiB, as `./run` gives it. An argument that is none of these, or a length
 // that cannot be lent, is told on standard error and passed over.
+#![tactic(auto)]
+
 mod asking;
 mod running;
 

@@ -1,6 +1,8 @@
 // main.rt - reads cases of converting a journal from standard input, a line each, and counts those that agree, differ and are skipped.
 // Means: of of_conversion, that what agrees is equal; else nothing, proved safe.
 // Uses: forms, compare, cases, io, libc.  Source: [K8], crates/forms_cases/README.md.
+#![tactic(auto)]
+
 ghost use Rattle.std.specs.Prelude.{◌≡◌};
 ghost use Rattle.compare.specs.Verdict.{TellsAgrees};
 

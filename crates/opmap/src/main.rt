@@ -1,6 +1,8 @@
 // main.rt - prints the kinds of all 65,536 operation words as runs of equal names, a line to a run: first word, last word, name.
 // Means: nothing; its stored output is made from a list of names that is not ours, and shows no difference.
 // Uses: decode, kind_table, io.  Source: [003 B], the names' parts; [K9].
+#![tactic(auto)]
+
 ghost use Rattle.std.specs.Prelude.{◌<◌};
 
 mod names;

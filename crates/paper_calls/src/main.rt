@@ -5,6 +5,8 @@
 //
 // What a call leaves is held against what the papers say, and then, so that a comparison which forgets something is seen, against the same with
 // one slot or one byte altered, each of them in its turn: all of those must differ. Where an example speaks of no ROM it lends an empty one.
+#![tactic(auto)]
+
 mod roms;
 
 ghost use Rattle.std.specs.Prelude.{◌≡◌, ◌≤◌, ◌<◌, length};

@@ -1,6 +1,8 @@
 // main.rt - reads cases of making room from standard input, a line each, and counts those that agree, differ and are skipped.
 // Means: of of_room, that what agrees is equal; else nothing, proved safe.
 // Uses: oldest, compare, cases, io, libc.  Source: [K5], crates/rooms/README.md.
+#![tactic(auto)]
+
 ghost use Rattle.std.specs.Prelude.{◌≡◌};
 ghost use Rattle.compare.specs.Verdict.{TellsAgrees};
 

@@ -1,6 +1,8 @@
 // main.rt - reads cases from standard input, a line each, and counts those that agree, differ and are skipped.
 // Means: nothing; proved safe.
 // Uses: compare, cases, stack_limit, io, libc, os.  Source: [01 Set down and proved], crates/vectors/README.md.
+#![tactic(auto)]
+
 use cases::lines::{NO_MORE, Reading};
 use cases::tally;
 use cases::tally::Tally;
