@@ -7,6 +7,8 @@ pub mod slots;
 
 ghost use Rattle.std.specs.Prelude.{◌≤◌, length, IfOk};
 
+use std::env::{Env, FillError};
+use std::fs::File;
 use std::io;
 use std::io::Read;
 
@@ -86,4 +88,53 @@ pub fn file_has_more(file: &mut impl Read) -> io::Result<bool> {
 // Whether standard input has.
 pub fn has_more(rt: &impl Input) -> io::Result<bool> {
     file_has_more(&mut rt.reader())
+}
+
+// ---- arguments
+
+// Puts argument i at the start of text, and answers its length: 0 where it is missing or longer than text.
+pub fn argument(rt: &impl Env, i: usize, text: &mut [u8]) -> usize
+    ensures { result ≤ length text.new }
+{
+    match rt.arg(i, text) {
+        Ok(n) => n,
+        Err(_) => 0,
+    }
+}
+
+// How many arguments there are, with the program's name.
+pub fn argument_count(rt: &impl Env) -> usize {
+    for i in 0..usize::MAX {
+        if let Err(FillError::NotPresent) = rt.arg(i, &mut []) {
+            return i;
+        }
+    }
+    usize::MAX
+}
+
+// ---- files that an argument names
+
+// A path that is no text names no file.
+pub fn opened(rt: &HostRuntime, path: &[u8]) -> io::Result<File> {
+    match str::from_utf8(path) {
+        Ok(name) => File::open(rt, name),
+        Err(_) => Err(io::Error::from(io::ErrorKind::InvalidFilename)),
+    }
+}
+
+// The system's words for an error, from a text that may have its number behind them.
+fn words_of(text: &str) -> &str {
+    match text.split_once(" (os error ") {
+        Some((words, _)) => words,
+        None => text,
+    }
+}
+
+// Tells on standard error why a file can not be opened.
+pub fn tell_failed(rt: &HostRuntime, path: &[u8], e: &io::Error) -> io::Result<()> {
+    let text = format!(in rt.alloc(); "{e}")?;
+    let told = rt.stderr();
+    told.write_all(path)?;
+    told.print(": ")?;
+    told.println(words_of(text.as_str()))
 }

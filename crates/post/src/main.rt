@@ -14,8 +14,9 @@ mod complaints;
 mod telling;
 mod words;
 
+use console::argument_count;
 use forms::Form;
-use std::{env, io};
+use std::io;
 use words::Asked;
 
 // How many bytes of input and of output are held, where the stack is large and where it may be small: those of a journal of 16 MiB, or of
@@ -102,23 +103,17 @@ fn on_large(rt: &HostRuntime, a: Asked) -> io::Result<()> {
 
 // Reads the words from one place to before another, by halves, and after the last of them does what they ask. A compiler puts no large frame
 // of another function into that of one that calls itself: so the large room is on the stack only while it is used.
-fn obey_between(
-    rt: &HostRuntime,
-    args: &[String],
-    from: usize,
-    to: usize,
-    a: Asked,
-) -> io::Result<Asked> {
+fn obey_between(rt: &HostRuntime, from: usize, to: usize, a: Asked) -> io::Result<Asked> {
     if to <= from {
         return Ok(a);
     }
     let half = (to - from) / 2;
     if 0 < half {
-        let q = obey_between(rt, args, from, from + half, a)?;
-        return obey_between(rt, args, from + half, to, q);
+        let q = obey_between(rt, from, from + half, a)?;
+        return obey_between(rt, from + half, to, q);
     }
-    let q = words::with_word(args, a, from);
-    if words::is_nothing(q) | !words::is_last(args, from) {
+    let q = words::with_word(rt, a, from);
+    if words::is_nothing(q) | !words::is_last(rt, from) {
         return Ok(q);
     }
     if stack_limit::is_large(rt) {
@@ -130,8 +125,7 @@ fn obey_between(
 }
 
 fn main(rt: HostRuntime) -> io::Result<()> {
-    let args: Vec<String> = env::args(&rt)?.collect(rt.alloc())?;
-    let a = obey_between(&rt, &args, 1, args.len(), Asked::Nothing)?;
+    let a = obey_between(&rt, 1, argument_count(&rt), Asked::Nothing)?;
     if words::is_nothing(a) {
         return complaints::usage(&rt);
     }

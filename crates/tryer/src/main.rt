@@ -22,7 +22,7 @@ use calls::ResetAnswer;
 use changes::Bounds;
 use codes::{MOST_ROM, ROM_START, SLOTS};
 use console::{address, complain, counted, decimal, has_more, hex, read_full, text};
-use std::{env, io};
+use std::io;
 use tries::{BackAnswer, TryAnswer};
 use words::{MEMORY, Words};
 
@@ -259,22 +259,15 @@ fn lend_rom(
 }
 
 // Reads the ROM, and tries.
-fn try_beside(
-    rt: &HostRuntime,
-    args: &[String],
-    n: usize,
-    w: Words,
-    memory: &mut [u8; MEMORY],
-) -> io::Result<()> {
+fn try_beside(rt: &HostRuntime, n: usize, w: Words, memory: &mut [u8; MEMORY]) -> io::Result<()> {
     let mut rom = [0u8; MOST_ROM];
-    let length = rom::read(rt, args, &mut rom)?;
+    let length = rom::read(rt, &mut rom)?;
     lend_rom(rt, n, w, memory, &rom, length)
 }
 
 fn main(rt: HostRuntime) -> io::Result<()> {
-    let args: Vec<String> = env::args(&rt)?.collect(rt.alloc())?;
-    let w = words::read(&args);
-    if !words::are_good(&args, w) {
+    let w = words::read(&rt);
+    if !words::are_good(&rt, w) {
         return complain(
             &rt,
             b"usage: ./run tryer [LO HI STEPS PC STACK ROM] < IMAGE; STEPS is in base 10, ROM a file, the others in base 16, - is the default\n",
@@ -285,5 +278,5 @@ fn main(rt: HostRuntime) -> io::Result<()> {
     if has_more(&rt)? {
         return complain(&rt, b"tryer: the image has more than 65536 bytes\n");
     }
-    try_beside(&rt, &args, n, w, &mut memory)
+    try_beside(&rt, n, w, &mut memory)
 }

@@ -3,9 +3,9 @@
 // Uses: codes, console, words.  Source: [ours]; the length is that of [K10].
 use crate::words;
 use codes::MOST_ROM;
-use console::{complain, file_has_more, read_full};
+use console::{argument, complain, file_has_more, opened, read_full, tell_failed};
+use std::io;
 use std::io::Read;
-use std::{fs, io};
 
 // what stands for the length of a ROM that can not be read: more than any has
 pub const NO_LENGTH: usize = 2097152;
@@ -24,20 +24,22 @@ fn read_from(
     Ok(n)
 }
 
-fn read_file(rt: &HostRuntime, path: &str, rom: &mut [u8; MOST_ROM]) -> io::Result<usize> {
-    match fs::open(rt, path) {
+fn read_file(rt: &HostRuntime, path: &[u8], rom: &mut [u8; MOST_ROM]) -> io::Result<usize> {
+    match opened(rt, path) {
         Ok(mut file) => read_from(rt, &mut file, rom),
         Err(e) => {
-            eprintln!(rt; "{path}: {e}")?;
+            tell_failed(rt, path, &e)?;
             Ok(NO_LENGTH)
         }
     }
 }
 
 // Reads the file that the word names, and answers how many bytes it has; 0 where no word names one.
-pub fn read(rt: &HostRuntime, args: &[String], rom: &mut [u8; MOST_ROM]) -> io::Result<usize> {
-    match args.get(words::FILE) {
-        Some(path) if words::names_rom(args) => read_file(rt, path.as_str(), rom),
-        _ => Ok(0),
+pub fn read(rt: &HostRuntime, rom: &mut [u8; MOST_ROM]) -> io::Result<usize> {
+    if !words::names_rom(rt) {
+        return Ok(0);
     }
+    let mut path = [0u8; 4096];
+    let n = argument(rt, words::FILE, &mut path);
+    read_file(rt, &path[..n], rom)
 }

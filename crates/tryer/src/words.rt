@@ -1,6 +1,8 @@
 // words.rt - the words after the program's name: which addresses, steps, start and stack they ask, and the name of a ROM's file.
 // Means: nothing; proved safe.
-// Uses: nothing.  Source: [ours].
+// Uses: console.  Source: [ours].
+use console::{argument, argument_count};
+use std::env::Env;
 
 // how many bytes a memory has here, and the steps that are allowed where no word says it
 pub const MEMORY: usize = 65536;
@@ -84,11 +86,13 @@ fn spelled(text: &[u8], ten: bool, other: u64) -> u64 {
 }
 
 // Word k, or the other number where there are fewer.
-fn word(args: &[String], k: usize, ten: bool, other: u64) -> u64 {
-    if args.len() <= k {
+fn word(rt: &impl Env, k: usize, ten: bool, other: u64) -> u64 {
+    if argument_count(rt) <= k {
         return other;
     }
-    spelled(args[k].as_bytes(), ten, other)
+    let mut text = [0u8; 4096];
+    let n = argument(rt, k, &mut text);
+    spelled(&text[..n], ten, other)
 }
 
 // The stack that no word names: at the window's end, or at memory's where the window reaches into ROM.
@@ -99,20 +103,20 @@ fn stack_below(hi: u64) -> u64 {
     ALL
 }
 
-pub fn read(args: &[String]) -> Words {
-    let hi = word(args, 2, false, ALL);
+pub fn read(rt: &impl Env) -> Words {
+    let hi = word(rt, 2, false, ALL);
     Words {
-        lo: word(args, 1, false, 0),
+        lo: word(rt, 1, false, 0),
         hi,
-        steps: word(args, 3, true, STEPS),
-        pc: word(args, 4, false, OF_RESET),
-        stack: word(args, 5, false, stack_below(hi)),
+        steps: word(rt, 3, true, STEPS),
+        pc: word(rt, 4, false, OF_RESET),
+        stack: word(rt, 5, false, stack_below(hi)),
     }
 }
 
 // Whether there are not too many words, and each is a number.
-pub fn are_good(args: &[String], w: Words) -> bool {
-    if 7 < args.len() {
+pub fn are_good(rt: &impl Env, w: Words) -> bool {
+    if 7 < argument_count(rt) {
         return false;
     }
     w.lo < NO_NUMBER
@@ -123,11 +127,13 @@ pub fn are_good(args: &[String], w: Words) -> bool {
 }
 
 // Whether a word is the name of a ROM's file.
-pub fn names_rom(args: &[String]) -> bool {
-    if args.len() <= FILE {
+pub fn names_rom(rt: &impl Env) -> bool {
+    if argument_count(rt) <= FILE {
         return false;
     }
-    !is_dash(args[FILE].as_bytes())
+    let mut text = [0u8; 4096];
+    let n = argument(rt, FILE, &mut text);
+    !is_dash(&text[..n])
 }
 
 // The number of a word, with 32 bits.
