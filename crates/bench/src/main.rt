@@ -10,56 +10,26 @@
 // moved and the records dropped too. The image is standard input, or the file of an `image FILE` before the counts;
 // `memory BYTES`, `rom BYTES` and `journal BYTES` before them say how much is lent: else 65,536 bytes, none, and
 // 1,048,576. The ROM is all 0; its length is a number that no compiler knows, so that what a step pays for it is counted.
-// A memory above 65,536 bytes is on the heap, and lent where the stack limit is 64 MiB or more, as `./run` sets it. An argument that is none of these, or a length
+// A memory above 65,536 bytes needs a stack of 64 MiB, as `./run` gives it. An argument that is none of these, or a length
 // that cannot be lent, is told on standard error and passed over.
 #![tactic(auto)]
 
 mod asking;
 mod running;
 
-ghost use Rattle.std.specs.Prelude.{◌≤◌, length};
-
 use asking::{ANY, Asked, IMAGE, NO_COUNT};
 use bus::Window;
 use codes::SLOTS;
+use console::{argument, argument_count, opened, tell_failed};
 use running::{DROPPING, HASHED, Progress, SINGLY};
-use std::alloc::Global;
-use std::env::FillError;
-use std::fs::File;
+use std::io;
 use std::io::Read;
-use std::rt::Env;
-use std::{io, str};
 
 // Reads an image; the bytes after it are 0.
 fn load(from: &mut impl Read, image: &mut [u8; 65536]) -> io::Result<()> {
     *image = [0u8; 65536];
     console::read_full(from, image)?;
     Ok(())
-}
-
-// The file of that name. A name that is no text names none.
-fn opened(rt: &HostRuntime, path: &[u8]) -> io::Result<File> {
-    match str::from_utf8(path) {
-        Ok(name) => File::open(rt, name),
-        Err(_) => Err(io::Error::from(io::ErrorKind::InvalidFilename)),
-    }
-}
-
-// The system's words for an error, from a text that may have its number behind them.
-fn words_of(text: &str) -> &str {
-    match text.split_once(" (os error ") {
-        Some((words, _)) => words,
-        None => text,
-    }
-}
-
-// Tells on standard error why a file can not be opened.
-fn tell_failed(rt: &HostRuntime, path: &[u8], e: &io::Error) -> io::Result<()> {
-    let text = format!(in rt.alloc(); "{e}")?;
-    let told = rt.stderr();
-    told.write_all(path)?;
-    told.print(": ")?;
-    told.println(words_of(text.as_str()))
 }
 
 fn load_file(rt: &HostRuntime, path: &[u8], image: &mut [u8; 65536]) -> io::Result<()> {
@@ -159,9 +129,7 @@ fn run_lent(
     run_asked(rt, a, &mut memory[0..m], &rom[0..r], &mut journal[0..j])
 }
 
-fn copy(image: &[u8; 65536], memory: &mut [u8])
-    requires { 65536 ≤ length memory.old }
-{
+fn copy(image: &[u8; 65536], memory: &mut [u8; 16777216]) {
     for i in 0..65536usize {
         memory[i] = image[i];
     }
@@ -180,7 +148,7 @@ fn lend_small(
 fn lend_large(
     rt: &impl Print,
     a: Asked,
-    memory: &mut [u8],
+    memory: &mut [u8; 16777216],
     rom: &[u8; 1048576],
     journal: &mut [u8; 1048576],
 ) -> io::Result<()> {
@@ -194,9 +162,8 @@ fn run_small(rt: &impl Print, a: Asked, image: &[u8; 65536]) -> io::Result<()> {
     lend_small(rt, a, &mut memory, &rom, &mut journal)
 }
 
-// The memory of 16 MiB is on the heap.
-fn run_large(rt: &impl Print, alloc: Global, a: Asked, image: &[u8; 65536]) -> io::Result<()> {
-    let mut memory = vec![in alloc; 0u8; 16777216]?;
+fn run_large(rt: &impl Print, a: Asked, image: &[u8; 65536]) -> io::Result<()> {
+    let mut memory = [0u8; 16777216];
     let rom = [0u8; 1048576];
     let mut journal = [0u8; 1048576];
     copy(image, &mut memory);
@@ -234,26 +201,6 @@ fn with_image(rt: &impl Input, a: Asked, image: &mut [u8; 65536]) -> io::Result<
     Ok(q)
 }
 
-// Puts argument i at the start of text, and answers its length: 0 where it is missing or longer than text.
-fn argument(rt: &impl Env, i: usize, text: &mut [u8]) -> usize
-    ensures { result ≤ length text.new }
-{
-    match rt.arg(i, text) {
-        Ok(n) => n,
-        Err(_) => 0,
-    }
-}
-
-// How many arguments there are, with the program's name.
-fn argument_count(rt: &impl Env) -> usize {
-    for i in 0..usize::MAX {
-        if let Err(FillError::NotPresent) = rt.arg(i, &mut []) {
-            return i;
-        }
-    }
-    usize::MAX
-}
-
 fn obey_argument(
     rt: &HostRuntime,
     i: usize,
@@ -267,7 +214,7 @@ fn obey_argument(
 }
 
 // Obeys the arguments from one place to before another, by halves. A compiler puts no large frame of another function
-// into that of one that calls itself: so what a run has on the stack is there only while it is used.
+// into that of one that calls itself: so a memory of 16 MiB is on the stack only while it is used.
 fn obey_between(
     rt: &HostRuntime,
     from: usize,
@@ -291,7 +238,7 @@ fn obey_between(
         run_small(rt, q, image)?;
         return Ok(q);
     }
-    run_large(rt, rt.alloc(), q, image)?;
+    run_large(rt, q, image)?;
     Ok(q)
 }
 

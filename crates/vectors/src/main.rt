@@ -8,7 +8,6 @@ use cases::tally;
 use cases::tally::Tally;
 use cases::text::field;
 use compare::verdicts;
-use std::alloc::Global;
 use std::io;
 use std::io::Read;
 
@@ -130,8 +129,8 @@ fn try_large(
     rt: &impl Print,
     p: Progress,
     text: &[u8],
-    memory: &mut [u8],
-    wanted: &mut [u8],
+    memory: &mut [u8; 16777216],
+    wanted: &mut [u8; 16777216],
     rom: &mut [u8; 1048576],
 ) -> io::Result<Progress> {
     let found = cases::trying::try_case(text, memory, wanted, rom);
@@ -166,10 +165,9 @@ fn wide_case(rt: &impl Print, p: Progress, line: &[u8]) -> io::Result<Progress> 
     )
 }
 
-// The two memories of 16 MiB are on the heap.
-fn large_case(rt: &impl Print, alloc: Global, p: Progress, line: &[u8]) -> io::Result<Progress> {
-    let mut memory = vec![in alloc; 0u8; 16777216]?;
-    let mut wanted = vec![in alloc; 0u8; 16777216]?;
+fn large_case(rt: &impl Print, p: Progress, line: &[u8]) -> io::Result<Progress> {
+    let mut memory = [0u8; 16777216];
+    let mut wanted = [0u8; 16777216];
     let mut rom = [0u8; 1048576];
     try_large(
         rt,
@@ -196,10 +194,9 @@ fn read_line(
 }
 
 // Tries the next 2 to the power of k lines. A compiler puts no large frame of another function into that of one that
-// calls itself: so the memories that are on the stack are there only while they are used.
+// calls itself: so the memories are on the stack only while they are used.
 fn try_lines(
     rt: &impl Print,
-    alloc: Global,
     input: &mut impl Read,
     k: u32,
     large: bool,
@@ -211,8 +208,8 @@ fn try_lines(
         return Ok(p);
     }
     if 0 < k {
-        let half = try_lines(rt, alloc, input, k - 1, large, p, chunk, line)?;
-        return try_lines(rt, alloc, input, k - 1, large, half, chunk, line);
+        let half = try_lines(rt, input, k - 1, large, p, chunk, line)?;
+        return try_lines(rt, input, k - 1, large, half, chunk, line);
     }
     let q = read_line(input, p, chunk, line)?;
     if q.reading.state == NO_MORE {
@@ -229,7 +226,7 @@ fn try_lines(
         return wide_case(rt, q, line);
     }
     if large {
-        return large_case(rt, alloc, q, line);
+        return large_case(rt, q, line);
     }
     reported(rt, q, text_of(line, q.reading), verdicts::SKIPPED)
 }
@@ -250,7 +247,7 @@ fn try_all(rt: &HostRuntime, chunk: &mut [u8; 65536], line: &mut [u8; 8192]) -> 
     };
     let mut input = rt.reader();
     let large = stack_limit::is_large(rt);
-    let q = try_lines(rt, rt.alloc(), &mut input, 40, large, p, chunk, line)?;
+    let q = try_lines(rt, &mut input, 40, large, p, chunk, line)?;
     write_tally(rt, q.tally)
 }
 
