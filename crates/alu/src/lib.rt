@@ -1,6 +1,8 @@
 // lib.rt - sums, differences, logic, single bits, TAS and CHK at a size z: value and flags. No registers, no memory.
 // Means: specs/Alu.antt.  Laws: proofs/AluLaws.antt.
 // Uses: bits, flags.  Source: [003 A-1], [003 B], [01 Arithmetic].
+#![tactic(auto)]
+
 ghost use Rattle.std.specs.Prelude.{◌≡◌, ◌^◌, ◌<◌, ◌≤◌};
 ghost use Rattle.bits.specs.Bits.{modulus};
 ghost use Rattle.alu.specs.Alu.{OfSize, sum, difference, concluded, continued, add, add_extended, subtract, subtract_extended, negate};

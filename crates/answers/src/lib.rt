@@ -1,6 +1,8 @@
 // lib.rt - all of a call that takes no step: the numbers of the refusals, what a reset leaves, undo's answer.
 // Means: specs/Calls.antt of the crate calls.  Laws: proofs/NumberLaws.antt.
 // Uses: codes, bus, record, undo, exception, calls.  Source: [01 Calls and what they give back], [01 The journal], [K5], [K7], [K10].
+#![tactic(auto)]
+
 ghost use Rattle.std.specs.Prelude.{◌≡◌, ◌≤◌, length};
 ghost use Rattle.bus.specs.Bus.{board_of};
 ghost use Rattle.calls.specs.Calls.{memory_fits, rom_fits, state_fits, window_end, window_fits, first_tests, reset_number, reset_slots, refused_slots, no_room, step_tests, run_number, undo_number, undo_answer};

@@ -1,6 +1,8 @@
 // lib.rt - the bank of registers that an instruction sees, out of the twenty slots, and the slots after the instruction.
 // Means: specs/Bank.antt.  Laws: proofs/BankLaws.antt.
 // Uses: codes, bits, flags, bus, plan.  Source: [003 2.13.1], [003 4.2], [01 State], [01 step 5], [01 Easy slips].
+#![tactic(auto)]
+
 ghost use Rattle.std.specs.Prelude.{◌≡◌, ◌*◌, ◌%◌, ◌/◌};
 ghost use Rattle.bank.specs.Bank.{supervisor, tracing, bank, mode_after, slots_of, settle};
 

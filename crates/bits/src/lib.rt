@@ -1,6 +1,8 @@
 // lib.rt - numbers of 8, 16 and 32 bits: cut to a size, sign, differences, parts replaced, ones counted. Knows no 68000.
 // Means: specs/Bits.antt.  Laws: proofs/BitsLaws.antt, proofs/OnesLaws.antt.
 // Uses: nothing.  Source: [003 2.2], [003 B.4], [ours].
+#![tactic(auto)]
+
 ghost use Rattle.std.specs.Prelude.{◌≡◌, ◌+◌, ◌*◌, ◌%◌, ◌<◌, ◌≤◌};
 ghost use Rattle.std.specs.Int.Count.{ones_in};
 ghost use Rattle.bits.specs.Bits.{bit, modulus, half, low, minus, joined, sign_byte, sign_word, sign_extended};

@@ -1,6 +1,8 @@
 // lib.rt - shift and rotate instructions, and those on single bits: operands read, the result put or planned, the flags set.
 // Means: specs/Bitwise.antt.  Laws: proofs/BitwiseLaws.antt.
 // Uses: codes, bits, flags, alu, shift, bus, operand, plan.  Source: [003 3.5], [003 3.6], [003 B], [01 Arithmetic].
+#![tactic(auto)]
+
 ghost use Rattle.std.specs.Prelude.{◌≡◌, map};
 ghost use Rattle.bus.specs.Bus.{view_of};
 ghost use Rattle.bitwise.specs.Bitwise.{shift_count, shift_place, shift_register, shift_memory, bit_size, bit_place, bit_dynamic, bit_static};

@@ -1,6 +1,8 @@
 // lib.rt - the state as a block of bytes: twenty slots in order, four bytes each, high byte first; read and written.
 // Means: specs/Block.antt.  Laws: proofs/BlockLaws.antt.
 // Uses: codes, record.  Source: [K1].
+#![tactic(auto)]
+
 ghost use Rattle.std.specs.Prelude.{◌≡◌, ◌+◌, ◌*◌, ◌<◌, length};
 ghost use Rattle.std.proofs.lemmas.List.Edits.{sets};
 ghost use Rattle.block.specs.Block.{block_length, slot_of, slot_at, slot_bytes, slots_in, block_of};

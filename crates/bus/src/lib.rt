@@ -1,6 +1,8 @@
 // lib.rt - memory and ROM as a state may see them: reads with their faults, room for a write, and the words of an instruction in turn.
 // Means: specs/Bus.antt.  Laws: proofs/BusLaws.antt.
 // Uses: codes, bits.  Source: [003 2.4], [003 4-1], [003 4.4.9], [003 4.4.10], [01 Memory], [01 step 6], [01 step 7], [K7], [K10].
+#![tactic(auto)]
+
 ghost use Rattle.std.specs.Prelude.{◌≡◌, ◌+◌, ◌*◌, ◌/◌, ◌%◌, ◌<◌, [], map, length};
 ghost use Rattle.bus.specs.Bus.{two_at, all_of, part, rom_of, view_of, whole, failed, with_pc, with_sr, found_byte, found_word, read_byte, read_word, read_long, read_sized};
 ghost use Rattle.bus.specs.Bus.{for_writing, room, next_word, next_long};

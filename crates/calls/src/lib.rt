@@ -1,6 +1,7 @@
 // lib.rt - the types of the calls' answers, and the manners of a step and a run. What the calls are stands in specs/, the theorems about them in
 // proofs/; the code is in the crates answers (all of a call that takes no step), keeping and machine.
 // Means: specs/Calls.antt.  Uses: nothing.  Source: [01 Calls and what they give back], [K2], [K5], [K7].
+#![tactic(auto)]
 
 // What a step or a run does where the journal is full: it drops the fewest oldest records that make room, or it keeps them all and ends.
 #[derive(Clone, Copy)]

@@ -1,6 +1,7 @@
 // lib.rt - the numbers that stand for something, each by one name: sizes, slots, registers, modes, SR's bits, vectors, events, accesses, writes.
 // Means: specs/Codes.antt (DATA_READ here is DataRead there: underscores before capitals). No code: constants alone.
 // Uses: nothing.  Source: as in specs/Codes.antt.
+#![tactic(auto)]
 
 // Sizes, as an operation word's size field has them.
 pub const BYTE: u32 = 0;

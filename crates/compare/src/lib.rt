@@ -1,6 +1,8 @@
 // lib.rt - compares bytes with bytes, and slots with slots; in verdicts, a case with what is wanted of it. What agrees is proved here.
 // Means: specs/Same.antt.  Laws: proofs/SameLaws.antt.
 // Uses: codes.  Source: [ours].
+#![tactic(auto)]
+
 pub mod verdicts;
 
 ghost use Rattle.compare.specs.Same.{TellsSame};

@@ -1,6 +1,8 @@
 // lib.rt - program control: Bcc, BRA, BSR, DBcc, Scc, JMP, JSR, NOP, RTR, RTS.
 // Means: specs/Control.antt.  Laws: proofs/ControlLaws.antt.
 // Uses: codes, bits, flags, bus, operand, plan.  Source: [003 3.8], [003 B], [01 step 6], [01 Operands], [01 Easy slips].
+#![tactic(auto)]
+
 ghost use Rattle.std.specs.Prelude.{◌≡◌, map};
 ghost use Rattle.bus.specs.Bus.{view_of};
 ghost use Rattle.plan.specs.Plans.{nothing};

@@ -1,6 +1,8 @@
 // lib.rt - ABCD, SBCD, NBCD on bytes of any nibbles: result and flags. No registers, no memory.
 // Means: specs/Decimal.antt.  Laws: proofs/DecimalLaws.antt.
 // Uses: flags, bits.  Source: [003 B ABCD SBCD NBCD], [01 Arithmetic], [K4].
+#![tactic(auto)]
+
 ghost use Rattle.std.specs.Prelude.{◌≡◌};
 ghost use Rattle.decimal.specs.Decimal.{decimal_result, decimal_add, decimal_subtract, decimal_negate};
 

@@ -1,6 +1,8 @@
 // lib.rt - operation word to kind, and which kinds are privileged. The word alone decides; extension words are not read.
 // Means: kind_of and privileged in specs/Rows.antt, of_word in specs/Chain.antt.  Laws: proofs/RowsLaws.antt, proofs/AgreementLaws.antt.
 // Uses: bits, kinds, classes, lines, line_four.  Source: [003 B], [01 step 4].
+#![tactic(auto)]
+
 ghost use Rattle.std.specs.Prelude.{◌≡◌};
 ghost use Rattle.decode.specs.Rows.{kind_of, privileged};
 ghost use Rattle.decode.specs.Chain.{of_word};

@@ -1,6 +1,8 @@
 // lib.rt - an exception: room for its frame on SSP, the vector, the slots, and the halt where it cannot be taken.
 // Means: specs/Exceptions.antt.  Laws: proofs/ExceptionLaws.antt, proofs/EnterLaws.antt.
 // Uses: codes, bits, bus, bank, touch, frames.  Source: [003 4.3.5], [003 4.4.9], [003 4.4.10], [01 step 1], [01 step 7], [01 step 8], [K3].
+#![tactic(auto)]
+
 ghost use Rattle.std.specs.Prelude.{◌≡◌, ◌+◌, ◌%◌, ◌≤◌, length};
 ghost use Rattle.bus.specs.Bus.{all_of};
 ghost use Rattle.touch.specs.Touch.{LogOk, Noted};

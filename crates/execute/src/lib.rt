@@ -1,6 +1,8 @@
 // lib.rt - the instruction of an operation word: its kind, whether it may be done in this state, the family's function, and its clocks.
 // Means: specs/Dispatch.antt.  Laws: proofs/DispatchLaws.antt, proofs/ClockLaws.antt.
 // Uses: codes, bus, operand, plan, timing, decode, kind_table, movement, control.  Source: [01 step 2], [01 step 4], [003 4.4.7], [K2].
+#![tactic(auto)]
+
 ghost use Rattle.std.specs.Prelude.{◌≡◌, ◌/◌, ◌%◌, ◌<◌, ◌≤◌, map, length};
 ghost use Rattle.bus.specs.Bus.{view_of};
 ghost use Rattle.execute.specs.Dispatch.{dispatch, as_user, execute, user_clocks, own_clocks, after_branch};

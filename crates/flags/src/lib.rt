@@ -1,6 +1,8 @@
 // lib.rt - the five flags X N Z V C as one number, a value with its flags, and the sixteen conditions.
 // Means: specs/Flags.antt.  Laws: proofs/FlagsLaws.antt.
 // Uses: codes, bits.  Source: [003 1.2], [003 A-2], [003 B DBcc], [003 B MOVE to CCR], [01 What the box emulates].
+#![tactic(auto)]
+
 ghost use Rattle.std.specs.Prelude.{◌≡◌, ◌+◌, ◌*◌, ◌%◌, ◌/◌, ◌<◌};
 ghost use Rattle.flags.specs.Flags.{flags, x_of, n_of, z_of, v_of, c_of, with_ccr, sr_bits, condition, condition_by};
 

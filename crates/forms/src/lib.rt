@@ -1,6 +1,8 @@
 // lib.rt - a whole journal converted from form 1 into form 2, for posting, and back.
 // Means: specs/Forms.antt, specs/Promises.antt.  Laws: proofs/RecordLaws, JournalLaws, ConvertLaws, FormLaws.
 // Uses: runs, oldest, undo, record, numbers, codes.  Source: [K8].
+#![tactic(auto)]
+
 ghost use Rattle.std.specs.Prelude.{◌≡◌, ◌+◌, ◌≤◌, ◌<◌, length, take};
 ghost use Rattle.numbers.specs.Number.{back, written};
 ghost use Rattle.record.specs.Limits.{slot_limit, byte_limit, longest_record_two};

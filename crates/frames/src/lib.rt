@@ -1,6 +1,8 @@
 // lib.rt - the frames of 6 and 14 bytes, as they are written, and a byte of memory that one is put over.
 // Means: specs/Frames.antt, specs/Under.antt.  Laws: proofs/FrameLaws.antt.
 // Uses: codes, bits, bus, touch, store.  Source: [003 4.3.4], [003 4.4.9.1], [01 step 1], [01 step 7], [01 step 8], [K3].
+#![tactic(auto)]
+
 ghost use Rattle.std.specs.Prelude.{◌≡◌, ◌+◌, ◌≤◌, length};
 ghost use Rattle.touch.specs.Touch.{LogOk, Noted};
 ghost use Rattle.frames.specs.Frames.{small_frame, fault_access, fault_rest, big_frame};

@@ -2,6 +2,8 @@
 // read once, at the start, and then again only when they are about to be dropped; and the journal is turned instead of moved.
 // Means: running of the crate calls at Dropping; specs/Full.antt.  Laws: proofs/MadeLaws.antt, proofs/FullLaws.antt.
 // Uses: codes, bus, record, oldest, turned, starts, held, step, calls, taken.  Source: [K5], [K7], [K10].
+#![tactic(auto)]
+
 ghost use Rattle.std.specs.Prelude.{◌≡◌, true, false, ◌+◌, ◌-◌, ◌*◌, ◌≤◌, ◌<◌, ◌^◌, length, eqb};
 ghost use Rattle.bus.specs.Bus.{board_of};
 ghost use Rattle.codes.specs.Codes.{MostSteps};

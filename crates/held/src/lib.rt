@@ -1,6 +1,8 @@
 // lib.rt - room in a full journal that is turned: the fewest oldest records are dropped, by the starts that are known where they reach.
 // Means: specs/Held.antt.  Laws: proofs/HeldLaws.antt, proofs/KeepLaws.antt; WrapLaws of the crate starts.
 // Uses: oldest, turned, starts, record, numbers.  Source: [K5], [ours].
+#![tactic(auto)]
+
 ghost use Rattle.std.specs.Prelude.{◌≡◌, ◌+◌, ◌-◌, ◌^◌, ◌≤◌, ◌<◌, length};
 ghost use Rattle.std.proofs.Math.Seq.{slice};
 ghost use Rattle.numbers.specs.Number.{written};

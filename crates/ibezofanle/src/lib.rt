@@ -2,6 +2,8 @@
 // conversions of a journal; the part of memory or ROM. No `requires`.  Exported to C by crate ibezofanle_c; declared for C in c/ibezofanle.h.
 // Means: Calls and Promises of the crate block_calls, Promises of forms, Part of part, where the laws and the theorems stand.
 // Uses: bus, block, calls, block_calls, part, keeping, machine, tries, forms.  Source: [K1], [K2], [K5], [K7], [K8], [K10].
+#![tactic(auto)]
+
 ghost use Rattle.bus.specs.Bus.{board_of};
 ghost use Rattle.calls.specs.declared.Manner.TheVariants.{Dropping, Keeping};
 ghost use Rattle.block_calls.specs.Promises.{IbzResetPromise, IbzStepPromise, IbzRunPromise, IbzUndoPromise};

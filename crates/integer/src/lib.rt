@@ -1,6 +1,8 @@
 // lib.rt - integer arithmetic, logic and decimal instructions: operands read, the result put or planned, the flags set.
 // Means: specs/Integer.antt.  Laws: proofs/IntegerLaws.antt.  Source: [003 3.3], [003 3.4], [003 3.7], [003 B], [01 Operands], [01 Arithmetic].
 // Uses: codes, bits, flags, alu, decimal, multiply_divide, bus, operand, plan.
+#![tactic(auto)]
+
 ghost use Rattle.std.specs.Prelude.{◌≡◌, map};
 ghost use Rattle.bus.specs.Bus.{view_of};
 ghost use Rattle.integer.specs.Integer.{binary, address_sum, continuing, unary_result, product_by, quotient_by, only_flags, into_register};

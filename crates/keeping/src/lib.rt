@@ -1,6 +1,8 @@
 // lib.rt - step and run in the manner that keeps all records: where the journal is full no step is taken. No call has a `requires`.
 // Means: Calls and Promises of the crate calls at Keeping, where the theorems stand.  Laws: proofs/CallLaws.antt, proofs/LoopLaws.antt.
 // Uses: codes, bits, bus, record, calls, answers, taken.  Source: [01 Calls and what they give back], [01 The journal], [K2], [K5], [K7], [K10].
+#![tactic(auto)]
+
 ghost use Rattle.std.specs.Prelude.{◌≡◌, true, ◌≤◌, length};
 ghost use Rattle.bus.specs.Bus.{board_of};
 ghost use Rattle.codes.specs.Codes.{MostSteps};

@@ -1,6 +1,8 @@
 // lib.rt - the kind of an operation word by a table of 1,024 entries, chosen by the word divided by 64. Beside it stands decode's chain of tests.
 // Means: specs/Table.antt, specs/Ways.antt; kind_of of decode.  Laws: proofs/TableLaws.antt.
 // Uses: decode, table, ways.  Source: [K9].
+#![tactic(auto)]
+
 ghost use Rattle.std.specs.Prelude.{◌≡◌};
 ghost use Rattle.decode.specs.Rows.{kind_of};
 

@@ -2,6 +2,8 @@
 // step and run drop its oldest records; those that keep all of them are step_keeping and run_keeping of the crate keeping.
 // Means: Calls and Promises of the crate calls, step and run at Dropping.  Laws: proofs/CallLaws.antt, proofs/FirstLaws.antt.
 // Uses: codes, bits, bus, record, undo, oldest, calls, answers, taken, keeping, full.  Source: [01 Calls and what they give back], [K2], [K5], [K7], [K10].
+#![tactic(auto)]
+
 ghost use Rattle.bus.specs.Bus.{board_of};
 ghost use Rattle.calls.specs.declared.Manner.TheVariants.{Dropping};
 ghost use Rattle.calls.specs.Promises.{ResetPromise, StepPromise, RunPromise, UndoPromise};

@@ -1,6 +1,8 @@
 // lib.rt - MOVEM up to its writes: a list of registers walked to load them, and the plans of those that store. Crate blocks stores them.
 // Means: specs/Movem.antt.  Laws: proofs/MovemLaws.antt; those of the order of the writes stand in proofs/ too.
 // Uses: codes, bits, bus, operand, plan.  Source: [003 B MOVEM], [01 Operands].
+#![tactic(auto)]
+
 ghost use Rattle.std.specs.Prelude.{◌≡◌, map};
 ghost use Rattle.bus.specs.Bus.{view_of};
 ghost use Rattle.movem.specs.Movem.{first_spot, next_spot, load_one, load_list, movem_to_registers, movem_down, movem_to_memory};

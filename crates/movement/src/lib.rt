@@ -1,6 +1,8 @@
 // lib.rt - the instructions that move data: MOVE, MOVEA, MOVEQ, LEA, PEA, EXG, SWAP, LINK, UNLK, MOVEP. MOVEM is crate movem.
 // Means: specs/Movement.antt.  Laws: proofs/MovementLaws.antt.
 // Uses: codes, bits, bus, operand, flags, alu, plan.  Source: [003 3.2], [003 B], [01 step 6], [01 Operands].
+#![tactic(auto)]
+
 ghost use Rattle.std.specs.Prelude.{◌≡◌, ◌+◌, ◌*◌, ◌/◌, ◌%◌, ◌<◌, map};
 ghost use Rattle.bits.specs.Bits.{minus};
 ghost use Rattle.bus.specs.Bus.{view_of};

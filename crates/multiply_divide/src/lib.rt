@@ -1,6 +1,8 @@
 // lib.rt - MULS, MULU, DIVS, DIVU: result and flags; the signed two on signed numbers. No registers, no memory, no trap.
 // Means: specs/MultiplyDivide.antt.  Laws: proofs/SignedLaws.antt, proofs/ResultLaws.antt.
 // Uses: flags, bits.  Source: [003 B MULS MULU DIVS DIVU], [01 Arithmetic], [01 step 5], [01 The shape of each place].
+#![tactic(auto)]
+
 ghost use Rattle.std.specs.Prelude.{◌≡◌, ◌<◌, pos, ◌*ℤ◌};
 ghost use Rattle.std.specs.Int.Signed.{quot_z, rem_z, mag};
 ghost use Rattle.multiply_divide.specs.MultiplyDivide.{signed_long, signed_word, low_long, outside_word, product_result, multiply_signed, multiply_unsigned};

@@ -1,6 +1,8 @@
 // lib.rt - the journal's numbers: written at a place, and read back from the place where they end.
 // Means: specs/Number.antt.  Laws: proofs/NumberLaws.antt, proofs/WrittenLaws.antt, proofs/PutLaws.antt, proofs/ExampleLaws.antt.
 // Uses: bits.  Source: [01 The journal].
+#![tactic(auto)]
+
 ghost use Rattle.std.specs.Prelude.{◌≡◌, ◌+◌, ◌-◌, ◌*◌, ◌^◌, ◌≤◌, ◌<◌, length};
 ghost use Rattle.numbers.specs.Number.{number_bytes, written, GroupsIs, NumberIs};
 

@@ -1,6 +1,8 @@
 // lib.rt - room in a full journal: the fewest oldest records are dropped, and the rest moves down to place 0.
 // Means: specs/Room.antt.  Laws: proofs/MoveLaws, WayLaws, RowLaws, RoomLaws, SumLaws.
 // Uses: undo, record, numbers, bits.  Source: [K5].
+#![tactic(auto)]
+
 ghost use Rattle.std.specs.Prelude.{◌≡◌, ℕ, ◌+◌, ◌^◌, ◌<◌, ◌≤◌, length, nat_lt, slice_index};
 ghost use Rattle.std.proofs.Math.Seq.{slice};
 ghost use Rattle.bits.specs.Bits.{pick};

@@ -1,6 +1,8 @@
 // lib.rt - one whole step: an interrupt that is taken, or one instruction, from its operation word to its end; a stopped machine; its clocks.
 // Means: specs/Steps.antt of the crate step, where the laws and the theorems stand; step has the end of an instruction too.
 // Uses: codes, bus, reach, plan, clocks, blocks, touch, bank, exception, execute, step.  Source: [003 4.1], [003 4.4.2], [01 One step], [K2], [K7], [K10].
+#![tactic(auto)]
+
 ghost use Rattle.std.specs.Prelude.{◌≡◌, map, ◌≤◌, ◌<◌, length};
 ghost use Rattle.bank.specs.Bank.{supervisor};
 ghost use Rattle.bus.specs.Bus.{board_of, seen_by, view_of};

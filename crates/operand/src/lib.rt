@@ -1,6 +1,8 @@
 // lib.rt - the register bank and the twelve addressing modes at three sizes, with their register steps and extension words.
 // Means: specs/Operands.antt.  Laws: proofs/OperandLaws.antt.
 // Uses: codes, bits, bus.  Source: [003 2.3], [003 2.7], [003 2.11], [01 Operands], [01 step 7].
+#![tactic(auto)]
+
 ghost use Rattle.std.specs.Prelude.{◌≡◌, ◌+◌, ◌/◌, ◌%◌, ◌<◌, map};
 ghost use Rattle.bus.specs.Bus.{view_of};
 ghost use Rattle.operand.specs.Operands.{get, put, increment, in_register, in_memory, number, indirect, postincrement, predecrement, displaced};

@@ -1,6 +1,8 @@
 // lib.rt - the very part of memory or of ROM that holds an address and a length, for the fault page. The call has no `requires`.
 // Means: specs/Part.antt.  Laws: proofs/PartLaws.antt.
 // Uses: codes, calls, answers.  Source: [K10], [01 The shape of each place].
+#![tactic(auto)]
+
 ghost use Rattle.std.specs.Prelude.{◌+◌, ◌≤◌, ◌≡◌, length};
 ghost use Rattle.part.specs.Part.{lies, PartOf, PartPromise};
 

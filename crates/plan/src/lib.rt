@@ -1,6 +1,8 @@
 // lib.rt - what an instruction leaves to do: one write, a trap or a stop, and where it stands. The instruction families share this.
 // Means: specs/Plans.antt.  Laws: proofs/PlanLaws.antt.
 // Uses: codes, bits, flags, bus, operand.  Source: [003 4.4.5], [003 4.4.10], [01 step 3], [01 step 6], [K3], [ours].
+#![tactic(auto)]
+
 ghost use Rattle.std.specs.Prelude.{◌≡◌, ◌+◌, ◌*◌, ◌%◌, ◌/◌};
 ghost use Rattle.plan.specs.Plans.{flagged, jump, nothing, trapping, refusing, stopping, writing, finish, push, quick};
 

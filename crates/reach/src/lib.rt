@@ -1,6 +1,8 @@
 // lib.rt - the parts of memory and of the ROM that are lent for a state: all of both in supervisor state, in user state what lies in the
 // window.
 // Means: seen_by of bus; specs/Reach.antt.  Laws: proofs/ReachLaws.antt.  Uses: codes, bus.  Source: [K7], [K10].
+#![tactic(auto)]
+
 ghost use Rattle.std.specs.Prelude.{◌≡◌, map, ◌-◌, ◌≤◌};
 ghost use Rattle.codes.specs.Codes.{RomStart};
 ghost use Rattle.bus.specs.Bus.{board_of, seen_by, view_of};

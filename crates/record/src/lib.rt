@@ -1,6 +1,8 @@
 // lib.rt - the record of a step: what differs, with its old values, written at the mark.
 // Means: specs/Change.antt, specs/Mask.antt.  Laws: proofs/ChangeLaws.antt, proofs/DiffLaws.antt, proofs/KeptLaws.antt, proofs/MaskLaws.antt, proofs/SizeLaws.antt.
 // Uses: numbers, bits.  Source: [01 The journal].
+#![tactic(auto)]
+
 pub mod limits;
 
 ghost use Rattle.std.specs.Prelude.{◌≡◌, ◌+◌, ◌*◌, ◌≤◌, ◌<◌, ◌^◌, length};

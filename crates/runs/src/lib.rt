@@ -1,6 +1,8 @@
 // lib.rt - a record of the journal's form 2: changed bytes at neighbouring addresses stand in it as runs.
 // Means: specs/Runs.antt, specs/Two.antt.  Laws: proofs/RunLaws, ReadRunLaws, TwoLaws, LongestLaws, StepLaws, PutLaws.
 // Uses: undo, record, numbers, codes.  Source: [K8].
+#![tactic(auto)]
+
 pub mod put;
 pub mod read;
 

@@ -1,6 +1,8 @@
 // lib.rt - the eight shifts and rotates at three sizes: result and flags. No registers, no memory.
 // Means: specs/Shift.antt.  Laws: proofs/ShiftLaws.antt.
 // Uses: flags, bits.  Source: [003 B ASL LSL ROL ROXL], [003 A-1], [01 Arithmetic].
+#![tactic(auto)]
+
 ghost use Rattle.std.specs.Prelude.{◌≡◌};
 ghost use Rattle.bits.specs.Bits.{iter};
 ghost use Rattle.shift.specs.Shift.{by_kind, one_left, one_right, one_place, shift};

@@ -1,6 +1,8 @@
 // lib.rt - where the records of a run's full journal begin, so that they need not be read again at each step. Crate held makes room by it.
 // Means: specs/Starts.antt.  Laws: StartLaws, SkipLaws, WrapLaws, PostLaws, NearLaws of proofs/.
 // Uses: oldest, turned, undo, record, numbers.  Source: [K5], [ours].
+#![tactic(auto)]
+
 pub mod near;
 pub mod posts;
 

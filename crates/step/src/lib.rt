@@ -1,6 +1,8 @@
 // lib.rt - the end of an instruction: its writes, its trap and the trace after it, or its fault; and the clocks of all that.
 // Means: specs/Steps.antt; a whole step in code is crate one_step.  Laws: proofs/StepLaws.antt, proofs/ClockLaws.antt.
 // Uses: codes, bits, plan, timing, blocks, store, touch, bank, exception.  Source: [003 4.4.8], [01 step 5], [01 step 6], [01 step 7], [K2].
+#![tactic(auto)]
+
 ghost use Rattle.std.specs.Prelude.{◌≡◌, ◌+◌, ◌≤◌, ◌<◌, length};
 ghost use Rattle.bank.specs.Bank.{settle};
 ghost use Rattle.touch.specs.Touch.{LogOk, Noted};

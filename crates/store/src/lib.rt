@@ -1,6 +1,8 @@
 // lib.rt - the puts of a step: what stood at each place is noted in the touch log, then the new bytes are put.
 // Means: put_byte, put_word, put_long, put_sized of bus; Noted of touch.  Laws: proofs/StoreLaws.antt.
 // Uses: codes, touch, bus, bits.  Source: [01 The journal], [01 step 6].
+#![tactic(auto)]
+
 ghost use Rattle.std.specs.Prelude.{◌≡◌, ◌+◌, ◌*◌, ◌<◌, ◌≤◌, length};
 ghost use Rattle.bits.specs.Bits.{by_size};
 ghost use Rattle.bus.specs.Bus.{pins, put_byte, put_word, put_long, put_sized};

@@ -1,6 +1,8 @@
 // lib.rt - system control: immediates and moves to and from SR, CCR and USP, RESET, RTE, STOP, TRAP, TRAPV, CHK.
 // Means: specs/System.antt.  Laws: proofs/SystemLaws.antt.
 // Uses: codes, bits, flags, alu, bus, operand, plan.  Source: [003 3.9], [003 B], [01 step 2] to [01 step 7]. Privilege is the caller's.
+#![tactic(auto)]
+
 ghost use Rattle.std.specs.Prelude.{◌≡◌, map, ◌+◌, ◌%◌};
 ghost use Rattle.bus.specs.Bus.{view_of};
 ghost use Rattle.plan.specs.Plans.{nothing};

@@ -1,6 +1,8 @@
 // lib.rt - one step and its record at the mark, in a journal that has room for it. Every call that takes a step takes it by this.
 // Means: step_taken of the crate calls.  Laws: proofs/TakenLaws.antt.
 // Uses: bus, record, one_step, calls.  Source: [01 Calls and what they give back], [01 The journal], [K2], [K7], [K10].
+#![tactic(auto)]
+
 ghost use Rattle.std.specs.Prelude.{◌≡◌, true, ℕ, ◌+◌, ◌≤◌, ◌<◌, ◌^◌, length, get_or};
 ghost use Rattle.bus.specs.Bus.{board_of};
 ghost use Rattle.record.specs.Limits.{slot_limit, byte_limit, longest_record};

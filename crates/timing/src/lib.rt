@@ -1,6 +1,8 @@
 // lib.rt - how many clocks an instruction takes, and an exception: Appendix D's rules, each with its line's times as arguments.
 // Means: specs/Clocks.antt of the crate clocks.  Laws: ClockLaws, UnrolledLaws there.
 // Uses: codes, bits, flags, bus, operand, bitwise, clocks.  Source: [003 D], [K2].
+#![tactic(auto)]
+
 ghost use Rattle.std.specs.Prelude.{◌≡◌, map, ◌%◌, ◌<◌};
 ghost use Rattle.bus.specs.Bus.{view_of};
 ghost use Rattle.clocks.specs.Clocks.{place, operand_clocks, by_long, general, sized, addressed, narrow, paired, peripheral, moved, located, jumped};

@@ -1,6 +1,8 @@
 // lib.rt - the touch log of a step: each place that is written, ascending, with the value that it had as the step began.
 // Means: specs/Touch.antt.  Laws: proofs/TouchLaws.antt, proofs/RoomLaws.antt.
 // Uses: record, bits.  Source: [01 The journal].
+#![tactic(auto)]
+
 ghost use Rattle.std.specs.Prelude.{◌≡◌, true, ◌+◌, ◌≤◌, ◌<◌, ◌^◌, length, set};
 ghost use Rattle.record.specs.Change.{Ascending, changes};
 ghost use Rattle.touch.specs.Touch.{touch, AllBelow, FoundPlace, make_room, LogOk, Noted};

@@ -1,6 +1,8 @@
 // lib.rt - the pattern tryer: it tries a stranger's program in a window, says how that ended, and takes all back. No call has a `requires`.
 // Means: specs/Tries.antt, specs/Promises.antt.  Laws: proofs/TryLaws.antt, proofs/PromiseLaws.antt; the theorems stand in the crate tried.
 // Uses: codes, bus, bank, record, calls, answers, keeping, machine.  Source: [K7], [K10].
+#![tactic(auto)]
+
 ghost use Rattle.std.specs.Prelude.{◌≡◌};
 ghost use Rattle.bus.specs.Bus.{board_of};
 ghost use Rattle.tries.specs.Tries.{trying, try_number};

@@ -1,6 +1,8 @@
 // lib.rt - undo: the last record of a journal is read from its end, judged, and put back.
 // Means: specs/Undo.antt.  Laws: proofs/ReadLaws, JudgeLaws, ShapeLaws, FormedLaws, UndoLaws, ManyLaws.
 // Uses: record, numbers, bits.  Source: [01 The journal].
+#![tactic(auto)]
+
 ghost use Rattle.std.specs.Prelude.{◌≡◌, ◌≤◌, ◌<◌, length};
 ghost use Rattle.numbers.specs.Number.{back};
 ghost use Rattle.record.specs.Limits.{slot_limit, byte_limit};

@@ -8,25 +8,25 @@ use Rattle.tries.proofs.TryLaws.{Backing, backing_start, backing_again, backs_al
 use Rattle.tries.proofs.take_back.Statement.{statement}
 use Rattle.tries.proofs.take_back.Tie as tie
 
-abbrev invariant_loop : tie.invariant_loop
+abbrev invariant_loop : tie.invariant-loop-n
 invariant_loop slots₀ win memory₀ rom journal mark steps old n₀ at₀ slots memory n at =
     Backing (board_of win rom) old steps slots₀ memory₀ journal mark slots memory at n × (length memory ≡ length memory₀)
 
-abbrev decreases_loop : tie.decreases_loop
+abbrev decreases_loop : tie.decreases-loop-n
 decreases_loop slots₀ win memory₀ rom journal mark steps old n₀ at₀ slots memory n at = steps - n
 
 -- k: after the undo; l: the head of the loop
-returns : tie.Need-returns invariant_loop decreases_loop
+returns : tie.Need-returns-then-refused invariant_loop decreases_loop
 returns c =
     let k = c.before.before.before.before in
     let l = k.before.before.before in
-    backs_refused l.before.loop.invariant.0 l.loop-test.true k.undo.ensures c.if1.true
+    backs_refused l.before.loop-n.invariant.0 l.loop-n-test.true k.undo-a.ensures c.if-refused.true-raw
 
-loop_again : tie.Need-loop-preserved invariant_loop decreases_loop
+loop_again : tie.Need-loop-n-preserved invariant_loop decreases_loop
 loop_again c =
     let k = c.before.before.before.before in
     let l = k.before.before.before in
-    (backing_again l.before.loop.invariant.0 l.loop-test.true k.undo.ensures c.if1.false, search rules)
+    (backing_again l.before.loop-n.invariant.0 l.loop-n-test.true k.undo-a.ensures c.if-refused.false-raw, search rules)
 
 pub take_back_spec : {M : Type 1} → statement M
 take_back_spec =
@@ -42,4 +42,4 @@ take_back_spec =
     (λ c. search rules)
     loop_again
     (λ c. search rules)
-    (λ c. backs_all c.before.loop.invariant.0 c.loop-test.false))
+    (λ c. backs_all c.before.loop-n.invariant.0 c.loop-n-test.false))
