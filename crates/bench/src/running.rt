@@ -298,7 +298,7 @@ fn run_once(
     }
 }
 
-// Runs until the steps are done.
+// Runs until the steps are done. A write that fails is the only error: slots, memory and journal are then as the steps so far left them.
 pub fn run_all(
     rt: &impl Print,
     p: Progress,

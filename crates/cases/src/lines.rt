@@ -86,7 +86,7 @@ fn read_on(
     Ok(with_byte(next, line, chunk[at]))
 }
 
-// The next line.
+// The next line. A read that fails is the only error: chunk and line then hold what was read before it.
 pub fn next_line(
     input: &mut impl Read,
     r: Reading,

@@ -49,6 +49,7 @@ pub fn is_named(t: Tally, found: u32) -> bool {
     t.differ < NAMED
 }
 
+// Tells the tally in a line. A write that fails is the only error.
 pub fn write(rt: &impl Print, t: Tally) -> io::Result<()> {
     let agree = t.agree;
     let differ = t.differ;
