@@ -118,7 +118,7 @@ pub fn count_of(text: &[u8]) -> u64 {
     n
 }
 
-// The longest memory that is lent: a long one only where the stack is told to be large, though it is on the heap.
+// The longest memory that the stack has room for, as far as that is told.
 fn most_memory(rt: &(impl Files + Alloc)) -> u64 {
     if stack_limit::is_large(rt) {
         return 16777216;
