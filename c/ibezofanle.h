@@ -319,8 +319,9 @@ struct ibz_back_answer ibz_take_back(uint8_t *block, size_t block_length, uint32
  * is tried first: it holds the part if address + length is at most its length. Else the ROM holds it if address is 0xF00000 or above, and
  * address - 0xF00000 + length is at most the ROM's length. All 64 bits of both count: the address is not cut to 24 bits, and no sum wraps.
  * A part of 0 bytes may lie at the end of either slice; at 0xF00000 that is so of a ROM of 0 bytes too. The window plays no role.
- *   It returns the number (enum ibz_number). A part that is refused is empty, at memory's start. `part` is not NULL, lies outside of memory and
- * ROM, and holds a part before the call too: {NULL, 0}, or what an earlier call gave of bytes that are still there. */
+ *   It returns the number (enum ibz_number). A part that is refused is empty, at memory's start. Where the memory or the ROM that has the part
+ * is NULL, the part is empty, and its address means nothing. `part` is not NULL, lies outside of memory and ROM, and holds a part before the
+ * call too: {NULL, 0}, or what an earlier call gave of bytes that are still there. */
 uint32_t ibz_part(const uint8_t *memory, size_t memory_length, const uint8_t *rom, size_t rom_length, uint64_t address, uint64_t length,
                   struct ibz_slice *part);
 

@@ -102,6 +102,13 @@ static int is_part(const uint8_t *m, size_t length, const uint8_t *r, size_t rom
   return good;
 }
 
+/* The same of an empty part of what is NULL: its address means nothing, and only is not what was there before. */
+static int is_of_null(const uint8_t *m, size_t length, uint64_t address, uint64_t many, uint32_t number) {
+  struct ibz_slice p = {memory + 1, 1};
+  const uint32_t n = ibz_part(m, length, IBZ_NO_ROM, address, many, &p);
+  return n == number && p.length == 0 && p.bytes != memory + 1;
+}
+
 static void parts(void) {
   enum { NEITHER = 0, OF_MEMORY, OF_ROM };
   static const struct { uint64_t address, many; int where; } cases[] = {
@@ -123,7 +130,7 @@ static void parts(void) {
     EXPECT(is_part(memory, MEMORY, rom, ROM, cases[i].address, cases[i].many, where == NEITHER ? 13 : 0, there));
   }
   /* of no ROM: an empty one at its start, which is its end */
-  EXPECT(is_part(memory, MEMORY, rom, 0, START, 0, 0, rom) && is_part(memory, MEMORY, IBZ_NO_ROM, START, 0, 0, NULL));
+  EXPECT(is_part(memory, MEMORY, rom, 0, START, 0, 0, rom) && is_of_null(memory, MEMORY, START, 0, 0));
   EXPECT(is_part(memory, MEMORY, rom, 0, START, 1, 13, memory) && is_part(memory, MEMORY, rom, 0, START + 1, 0, 13, memory));
   /* memory is tried first */
   uint8_t *const m = guarded(16777216, at_end);
@@ -135,7 +142,7 @@ static void parts(void) {
   /* 1, then 12, then 13 */
   EXPECT(is_part(memory, 1023, rom, ROM, 0, 1, 1, memory) && is_part(memory, 1023, rom, 1, FAR, FAR, 1, memory));
   EXPECT(is_part(memory, MEMORY, rom, 1, 0, 1, 12, memory) && is_part(memory, MEMORY, rom, 63, FAR, FAR, 12, memory));
-  EXPECT(is_part(m, START + 2, rom, ROM, 0, 1, 12, m) && is_part(NULL, 0, IBZ_NO_ROM, 0, 0, 1, NULL));
+  EXPECT(is_part(m, START + 2, rom, ROM, 0, 1, 12, m) && is_of_null(NULL, 0, 0, 0, 1));
   /* it is the very bytes: what is written later stands in it */
   struct ibz_slice p = {NULL, 0};
   EXPECT(ibz_part(memory, MEMORY, rom, ROM, 0x700, 2, &p) == 0 && p.length == 2);
