@@ -1,8 +1,9 @@
 // asking.rt - what the arguments ask: the words, their numbers, and what is to be run next.
 // Means: nothing; proved safe.
-// Uses: running, stack_limit, io, libc.  Source: [ours]; the lengths are those of [01 Calls and what they give back].
+// Uses: running, stack_limit.  Source: [ours]; the lengths are those of [01 Calls and what they give back].
 use crate::running::{ALONE, DROPPING, HASHED, RECORDS, SINGLY, UNDONE};
-use libc::STDERR_FILENO;
+use std::io;
+use std::rt::Files;
 
 // what the next argument is: a count or a word; a file's name; a length; the count of a word
 pub const ANY: u32 = 0;
@@ -118,17 +119,17 @@ pub fn count_of(text: &[u8]) -> u64 {
 }
 
 // The longest memory that the stack has room for, as far as that is told.
-fn most_memory() -> u64 {
-    if stack_limit::is_large() {
+fn most_memory(rt: &(impl Files + Alloc)) -> u64 {
+    if stack_limit::is_large(rt) {
         return 16777216;
     }
     65536
 }
 
 // Whether a number can be what the next argument is. A journal of fewer than 536 bytes has no room for a step.
-fn fits(next: u32, n: u64) -> bool {
+fn fits(rt: &(impl Files + Alloc), next: u32, n: u64) -> bool {
     match next {
-        MEMORY => 1024 <= n && n <= most_memory() && n % 2 == 0,
+        MEMORY => 1024 <= n && n <= most_memory(rt) && n % 2 == 0,
         ROM => n <= 1048576 && n % 2 == 0,
         JOURNAL => 536 <= n && n <= 1048576,
         _ => n < NO_COUNT,
@@ -147,13 +148,15 @@ fn way_of(next: u32) -> u32 {
 }
 
 // The number that the next argument is.
-pub fn with_number(a: Asked, next: u32, n: u64) -> Asked {
-    if !fits(next, n) {
-        io::write_all(
-            STDERR_FILENO,
-            b"bench: an argument is no count, or no length that can be lent\n",
-        );
-        return a;
+pub fn with_number(
+    rt: &(impl Files + Alloc + Eprint),
+    a: Asked,
+    next: u32,
+    n: u64,
+) -> io::Result<Asked> {
+    if !fits(rt, next, n) {
+        rt.eprintln("bench: an argument is no count, or no length that can be lent")?;
+        return Ok(a);
     }
     let mut q = a;
     match next {
@@ -163,5 +166,5 @@ pub fn with_number(a: Asked, next: u32, n: u64) -> Asked {
         _ => q.count = n,
     }
     q.way = way_of(next);
-    q
+    Ok(q)
 }

@@ -1,9 +1,9 @@
 // running.rt - runs of many steps from a reset: with a journal that starts again when it is full, or whose oldest records are dropped.
 // Means: nothing; proved safe.
-// Uses: codes, keeping, machine, io, libc.  Source: [01 Calls and what they give back], [K5]; the hash is FNV-1a of 32 bits.
+// Uses: codes, keeping, machine.  Source: [01 Calls and what they give back], [K5]; the hash is FNV-1a of 32 bits.
 use bus::Window;
 use codes::SLOTS;
-use libc::STDOUT_FILENO;
+use std::io;
 
 // no program reaches this address
 const STOP: u32 = 4294967295;
@@ -71,23 +71,23 @@ pub fn hash_of(bytes: &[u8]) -> u32 {
     hashed(HASH_START, bytes)
 }
 
-fn write_byte(b: u8) {
-    io::print_hex(STDOUT_FILENO, b as u64, 2);
+fn write_byte(rt: &impl Print, b: u8) -> io::Result<()> {
+    print!(rt; "{b:02x}")
 }
 
-fn write_bytes(bytes: &[u8]) {
+fn write_bytes(rt: &impl Print, bytes: &[u8]) -> io::Result<()> {
     for i in 0..bytes.len() {
-        write_byte(bytes[i]);
+        write_byte(rt, bytes[i])?;
     }
-    io::write_all(STDOUT_FILENO, b"\n");
+    rt.write_all(b"\n")
 }
 
 // The journal's first bytes, as many as the mark says, in a line.
-fn write_to(journal: &[u8], mark: usize) {
+fn write_to(rt: &impl Print, journal: &[u8], mark: usize) -> io::Result<()> {
     if journal.len() < mark {
-        return;
+        return Ok(());
     }
-    write_bytes(&journal[0..mark]);
+    write_bytes(rt, &journal[0..mark])
 }
 
 // The journal's first bytes, as many as the mark says.
@@ -199,6 +199,7 @@ fn run_undone(
 }
 
 fn run_kept(
+    rt: &impl Print,
     p: Progress,
     slots: &mut [u32; SLOTS],
     win: Window,
@@ -206,18 +207,18 @@ fn run_kept(
     rom: &[u8],
     journal: &mut [u8],
     way: u32,
-) -> Progress {
+) -> io::Result<Progress> {
     let undone = run_undone(p, slots, win, memory, rom, journal, way);
     let part = run_part(p.left, slots, win, memory, rom, journal);
     let mut next = after(p, part);
     next.clocks = std::num::wrapping_add_u64(next.clocks, undone);
     if way == RECORDS {
-        write_to(journal, part.mark);
+        write_to(rt, journal, part.mark)?;
     }
     if way == HASHED {
         next.hash = hashed_to(p.hash, journal, part.mark);
     }
-    next
+    Ok(next)
 }
 
 // After a call that drops records: its mark, and its bytes and records with those before it.
@@ -281,6 +282,7 @@ fn step_dropping(
 }
 
 fn run_once(
+    rt: &impl Print,
     p: Progress,
     slots: &mut [u32; SLOTS],
     win: Window,
@@ -288,16 +290,17 @@ fn run_once(
     rom: &[u8],
     journal: &mut [u8],
     way: u32,
-) -> Progress {
+) -> io::Result<Progress> {
     match way {
-        DROPPING => run_dropping(p, slots, win, memory, rom, journal),
-        SINGLY => step_dropping(p, slots, win, memory, rom, journal),
-        _ => run_kept(p, slots, win, memory, rom, journal, way),
+        DROPPING => Ok(run_dropping(p, slots, win, memory, rom, journal)),
+        SINGLY => Ok(step_dropping(p, slots, win, memory, rom, journal)),
+        _ => run_kept(rt, p, slots, win, memory, rom, journal, way),
     }
 }
 
 // Runs until the steps are done.
 pub fn run_all(
+    rt: &impl Print,
     p: Progress,
     slots: &mut [u32; SLOTS],
     win: Window,
@@ -305,12 +308,12 @@ pub fn run_all(
     rom: &[u8],
     journal: &mut [u8],
     way: u32,
-) -> Progress {
+) -> io::Result<Progress> {
     let mut now = p;
     let mut turns = u64::MAX;
     while turns > 0 && now.left > 0 {
-        now = run_once(now, slots, win, memory, rom, journal, way);
+        now = run_once(rt, now, slots, win, memory, rom, journal, way)?;
         turns -= 1;
     }
-    now
+    Ok(now)
 }

@@ -1,7 +1,8 @@
-// lines.rt - the lines of standard input, one after the other.
+// lines.rt - the lines of an input, one after the other.
 // Means: nothing; proved safe.
-// Uses: io, libc.  Source: [ours].
-use libc::STDIN_FILENO;
+// Uses: std's reading alone.  Source: [ours].
+use std::io;
+use std::io::Read;
 
 // How far the reading is: the chunk's bytes from `at` to `end` belong to no line yet. A length above the room of a line
 // says that the line is too long.
@@ -50,46 +51,56 @@ fn with_byte(r: Reading, line: &mut [u8], b: u8) -> Reading {
 }
 
 // Fills the chunk anew. At the end of the input a line that has bytes is ended, and no other begins.
-fn refill(r: Reading, chunk: &mut [u8]) -> Reading {
-    let got = libc::read(STDIN_FILENO, chunk);
+fn refill(input: &mut impl Read, r: Reading, chunk: &mut [u8]) -> io::Result<Reading> {
+    let got = input.read(chunk)?;
     let mut next = r;
     next.at = 0;
-    next.end = io::count(got, chunk);
+    next.end = got;
     if 0 < next.end {
-        return next;
+        return Ok(next);
     }
     if 0 < next.length {
         next.state = ENDED;
-        return next;
+        return Ok(next);
     }
     next.state = NO_MORE;
-    next
+    Ok(next)
 }
 
-fn read_on(r: Reading, chunk: &mut [u8], line: &mut [u8]) -> Reading {
+fn read_on(
+    input: &mut impl Read,
+    r: Reading,
+    chunk: &mut [u8],
+    line: &mut [u8],
+) -> io::Result<Reading> {
     let at = r.at;
     let end = r.end;
     if chunk.len() <= at {
-        return refill(r, chunk);
+        return refill(input, r, chunk);
     }
     if end <= at {
-        return refill(r, chunk);
+        return refill(input, r, chunk);
     }
     let mut next = r;
     next.at = at + 1;
-    with_byte(next, line, chunk[at])
+    Ok(with_byte(next, line, chunk[at]))
 }
 
 // The next line.
-pub fn next_line(r: Reading, chunk: &mut [u8], line: &mut [u8]) -> Reading {
+pub fn next_line(
+    input: &mut impl Read,
+    r: Reading,
+    chunk: &mut [u8],
+    line: &mut [u8],
+) -> io::Result<Reading> {
     let mut now = r;
     now.number = std::num::wrapping_add_u64(r.number, 1);
     now.length = 0;
     now.state = INSIDE;
     let mut turns = u64::MAX;
     while turns > 0 && now.state == INSIDE {
-        now = read_on(now, chunk, line);
+        now = read_on(input, now, chunk, line)?;
         turns -= 1;
     }
-    now
+    Ok(now)
 }

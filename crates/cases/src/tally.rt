@@ -1,8 +1,8 @@
 // tally.rt - how many cases agree, differ and are skipped, and which of those that differ are named.
 // Means: nothing; proved safe.
-// Uses: compare, io, libc.  Source: [ours].
+// Uses: compare.  Source: [ours].
 use compare::verdicts::{AGREES, SKIPPED};
-use libc::STDOUT_FILENO;
+use std::io;
 
 // how many of the cases that differ are named
 const NAMED: u64 = 300;
@@ -49,12 +49,9 @@ pub fn is_named(t: Tally, found: u32) -> bool {
     t.differ < NAMED
 }
 
-pub fn write(t: Tally) {
-    io::write_all(STDOUT_FILENO, b"agree ");
-    io::print_decimal(STDOUT_FILENO, t.agree);
-    io::write_all(STDOUT_FILENO, b", differ ");
-    io::print_decimal(STDOUT_FILENO, t.differ);
-    io::write_all(STDOUT_FILENO, b", skipped ");
-    io::print_decimal(STDOUT_FILENO, t.skipped);
-    io::write_all(STDOUT_FILENO, b"\n");
+pub fn write(rt: &impl Print, t: Tally) -> io::Result<()> {
+    let agree = t.agree;
+    let differ = t.differ;
+    let skipped = t.skipped;
+    println!(rt; "agree {agree}, differ {differ}, skipped {skipped}")
 }

@@ -1,6 +1,10 @@
 // main.rt - reads cases of converting a journal from standard input, a line each, and counts those that agree, differ and are skipped.
 // Means: of of_conversion, that what agrees is equal; else nothing, proved safe.
+<<<<<<< HEAD
 // Uses: forms, compare, cases, io, libc.  Source: [K8], crates/forms_cases/README.md.
+=======
+// Uses: forms, compare, cases.  Source: [K8], crates/forms_cases/README.md.
+>>>>>>> ef089c86781439a578dd1ee9d5660fd8b49c06dc
 #![tactic(auto)]
 
 ghost use Rattle.std.specs.Prelude.{◌≡◌};
@@ -14,7 +18,8 @@ use cases::text::{NO_NUMBER, decimal, field, marks};
 use compare::same;
 use compare::verdicts::{AGREES, SKIPPED};
 use forms::FormAnswer;
-use libc::STDOUT_FILENO;
+use std::io;
+use std::io::Read;
 
 // spaces of a line that is a case
 const SPACES: usize = 5;
@@ -160,71 +165,84 @@ fn try_line(
     try_case(&line[0..n], source, target, wanted)
 }
 
-fn write_reason(found: u32) -> bool {
+fn write_reason(rt: &impl Print, found: u32) -> io::Result<()> {
     match found {
-        OTHER_NUMBER => io::write_all(STDOUT_FILENO, b": number\n"),
-        OTHER_LENGTH => io::write_all(STDOUT_FILENO, b": length\n"),
-        _ => io::write_all(STDOUT_FILENO, b": target\n"),
+        OTHER_NUMBER => rt.println(": number"),
+        OTHER_LENGTH => rt.println(": length"),
+        _ => rt.println(": target"),
     }
 }
 
 // Names a case that differs, if it is among the first.
-fn report(found: u32, before: Tally, line: u64) {
+fn report(rt: &impl Print, found: u32, before: Tally, line: u64) -> io::Result<()> {
     if tally::is_named(before, found) {
-        io::write_all(STDOUT_FILENO, b"line ");
-        io::print_decimal(STDOUT_FILENO, line);
-        write_reason(found);
+        print!(rt; "line {line}")?;
+        write_reason(rt, found)?;
     }
+    Ok(())
 }
 
 fn next_case(
+    rt: &impl Print,
+    input: &mut impl Read,
     p: Progress,
     chunk: &mut [u8],
     line: &mut [u8],
     source: &mut [u8],
     target: &mut [u8],
     wanted: &mut [u8],
-) -> Progress {
-    let reading = cases::lines::next_line(p.reading, chunk, line);
+) -> io::Result<Progress> {
+    let reading = cases::lines::next_line(input, p.reading, chunk, line)?;
     let so_far = p.tally;
     if reading.state == NO_MORE {
-        return Progress {
+        return Ok(Progress {
             reading,
             tally: so_far,
-        };
+        });
     }
     let found = try_line(line, reading, source, target, wanted);
-    report(found, so_far, reading.number);
-    Progress {
+    report(rt, found, so_far, reading.number)?;
+    Ok(Progress {
         reading,
         tally: tally::counted(so_far, found),
-    }
+    })
 }
 
 fn try_all(
+    rt: &impl Print,
+    input: &mut impl Read,
     chunk: &mut [u8; 65536],
     line: &mut [u8; 8192],
     source: &mut [u8; 4096],
     target: &mut [u8; 4096],
     wanted: &mut [u8; 4096],
-) {
+) -> io::Result<()> {
     let mut p = Progress {
         reading: cases::lines::start(),
         tally: tally::nothing(),
     };
     let mut turns = u64::MAX;
     while turns > 0 && p.reading.state != NO_MORE {
-        p = next_case(p, chunk, line, source, target, wanted);
+        p = next_case(rt, input, p, chunk, line, source, target, wanted)?;
         turns -= 1;
     }
-    tally::write(p.tally);
+    tally::write(rt, p.tally)
 }
 
-fn main() {
+fn main(rt: HostRuntime) -> io::Result<()> {
+    let mut input = rt.reader();
     let mut chunk = [0u8; 65536];
     let mut line = [0u8; 8192];
     let mut source = [0u8; 4096];
     let mut target = [0u8; 4096];
     let mut wanted = [0u8; 4096];
-    try_all(&mut chunk, &mut line, &mut source, &mut target, &mut wanted);
+    try_all(
+        &rt,
+        &mut input,
+        &mut chunk,
+        &mut line,
+        &mut source,
+        &mut target,
+        &mut wanted,
+    )
 }

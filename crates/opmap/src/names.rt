@@ -1,7 +1,8 @@
 // names.rt - the name of an operation word as two numbers, stem and ending, and the two as text.
 // Means: nothing; see main.rt.
-// Uses: decode, kind_table, io.  Source: [003 B], [003 A-2] the conditions' letters.
+// Uses: decode, kind_table.  Source: [003 B], [003 A-2] the conditions' letters.
 use decode::kinds;
+use std::io;
 
 // stems that no kind has: BTST BCHG BCLR BSET, then ASR ASL LSR LSL ROXR ROXL ROR ROL
 const BIT_TEST: u32 = kinds::KINDS;
@@ -75,26 +76,27 @@ pub fn same_name(a: u32, b: u32) -> bool {
 }
 
 // One letter of a list of names: it is written where no name is left to skip. How many are left to skip then.
-fn letter(b: u8, left: u32) -> u32 {
+fn letter(rt: &impl Print, b: u8, left: u32) -> io::Result<u32> {
     if b == b' ' {
-        return std::num::wrapping_sub_u32(left, 1);
+        return Ok(std::num::wrapping_sub_u32(left, 1));
     }
     if left == 0 {
-        io::write_all(1, &[b]);
+        rt.write_all(&[b])?;
     }
-    left
+    Ok(left)
 }
 
 // Writes name n of a list, counted from 0; names end with a space.
-fn write_nth(list: &[u8], n: u32) {
+fn write_nth(rt: &impl Print, list: &[u8], n: u32) -> io::Result<()> {
     let mut left = n;
     for i in 0..list.len() {
-        left = letter(list[i], left);
+        left = letter(rt, list[i], left)?;
     }
+    Ok(())
 }
 
 // Writes the word's name. The stems stand in the order of the kinds, then those from BIT_TEST and from SHIFT on.
-pub fn write_name(op: u32) {
+pub fn write_name(rt: &impl Print, op: u32) -> io::Result<()> {
     let stems =
         b"ILLEGAL LINEA LINEF MOVE MOVEA MOVEQ MOVEMtoMem MOVEMtoReg MOVEP MOVEP LEA PEA EXG EXG EXG SWAP LINK \
         UNLK ADD ADD ADDA ADDI ADDQ ADDQ ADDX SUB SUB SUBA SUBI SUBQ SUBQ SUBX NEG NEGX CLR CMP CMPA CMPI \
@@ -102,7 +104,7 @@ pub fn write_name(op: u32) {
         BRA BSR DB S JMP JSR NOP RTR RTS ANDItoCCR ANDItoSR EORItoCCR EORItoSR ORItoCCR ORItoSR MOVEfromSR \
         MOVEtoCCR MOVEtoSR MOVEtoUSP MOVEfromUSP RESET RTE STOP TRAP TRAPV CHK BTST BCHG BCLR BSET ASR ASL \
         LSR LSL ROXR ROXL ROR ROL";
-    write_nth(stems, stem(op));
+    write_nth(rt, stems, stem(op))?;
     let endings = b" .B .W .L T F HI LS CC CS NE EQ VC VS PL MI GE LT GT LE";
-    write_nth(endings, ending(op));
+    write_nth(rt, endings, ending(op))
 }

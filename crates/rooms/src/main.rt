@@ -1,6 +1,10 @@
 // main.rt - reads cases of making room from standard input, a line each, and counts those that agree, differ and are skipped.
 // Means: of of_room, that what agrees is equal; else nothing, proved safe.
+<<<<<<< HEAD
 // Uses: oldest, compare, cases, io, libc.  Source: [K5], crates/rooms/README.md.
+=======
+// Uses: oldest, compare, cases.  Source: [K5], crates/rooms/README.md.
+>>>>>>> ef089c86781439a578dd1ee9d5660fd8b49c06dc
 #![tactic(auto)]
 
 ghost use Rattle.std.specs.Prelude.{◌≡◌};
@@ -13,7 +17,8 @@ use cases::tally::Tally;
 use cases::text::{NO_NUMBER, decimal, field, marks, number};
 use compare::same;
 use compare::verdicts::{AGREES, SKIPPED};
-use libc::STDOUT_FILENO;
+use std::io;
+use std::io::Read;
 
 // spaces of a line that is a case
 const SPACES: usize = 7;
@@ -159,70 +164,82 @@ fn try_line(line: &[u8], r: Reading, journal: &mut [u8], wanted: &mut [u8]) -> u
     try_case(&line[0..n], journal, wanted)
 }
 
-fn write_reason(found: u32) -> bool {
+fn write_reason(rt: &impl Print, found: u32) -> io::Result<()> {
     match found {
-        OTHER_NUMBER => io::write_all(STDOUT_FILENO, b": number\n"),
-        OTHER_MARK => io::write_all(STDOUT_FILENO, b": mark\n"),
-        OTHER_MOVED => io::write_all(STDOUT_FILENO, b": bytes moved\n"),
-        OTHER_DROPPED => io::write_all(STDOUT_FILENO, b": records dropped\n"),
-        _ => io::write_all(STDOUT_FILENO, b": journal\n"),
+        OTHER_NUMBER => rt.println(": number"),
+        OTHER_MARK => rt.println(": mark"),
+        OTHER_MOVED => rt.println(": bytes moved"),
+        OTHER_DROPPED => rt.println(": records dropped"),
+        _ => rt.println(": journal"),
     }
 }
 
 // Names a case that differs, if it is among the first.
-fn report(found: u32, before: Tally, line: u64) {
+fn report(rt: &impl Print, found: u32, before: Tally, line: u64) -> io::Result<()> {
     if tally::is_named(before, found) {
-        io::write_all(STDOUT_FILENO, b"line ");
-        io::print_decimal(STDOUT_FILENO, line);
-        write_reason(found);
+        print!(rt; "line {line}")?;
+        write_reason(rt, found)?;
     }
+    Ok(())
 }
 
 fn next_case(
+    rt: &impl Print,
+    input: &mut impl Read,
     p: Progress,
     chunk: &mut [u8],
     line: &mut [u8],
     journal: &mut [u8],
     wanted: &mut [u8],
-) -> Progress {
-    let reading = cases::lines::next_line(p.reading, chunk, line);
+) -> io::Result<Progress> {
+    let reading = cases::lines::next_line(input, p.reading, chunk, line)?;
     let so_far = p.tally;
     if reading.state == NO_MORE {
-        return Progress {
+        return Ok(Progress {
             reading,
             tally: so_far,
-        };
+        });
     }
     let found = try_line(line, reading, journal, wanted);
-    report(found, so_far, reading.number);
-    Progress {
+    report(rt, found, so_far, reading.number)?;
+    Ok(Progress {
         reading,
         tally: tally::counted(so_far, found),
-    }
+    })
 }
 
 fn try_all(
+    rt: &impl Print,
+    input: &mut impl Read,
     chunk: &mut [u8; 65536],
     line: &mut [u8; 8192],
     journal: &mut [u8; 4096],
     wanted: &mut [u8; 4096],
-) {
+) -> io::Result<()> {
     let mut p = Progress {
         reading: cases::lines::start(),
         tally: tally::nothing(),
     };
     let mut turns = u64::MAX;
     while turns > 0 && p.reading.state != NO_MORE {
-        p = next_case(p, chunk, line, journal, wanted);
+        p = next_case(rt, input, p, chunk, line, journal, wanted)?;
         turns -= 1;
     }
-    tally::write(p.tally);
+    tally::write(rt, p.tally)
 }
 
-fn main() {
+fn main(rt: HostRuntime) -> io::Result<()> {
+    let mut input = rt.reader();
     let mut chunk = [0u8; 65536];
     let mut line = [0u8; 8192];
     let mut journal = [0u8; 4096];
     let mut wanted = [0u8; 4096];
-    try_all(&mut chunk, &mut line, &mut journal, &mut wanted);
+    try_all(
+        &rt,
+        &mut input,
+        &mut chunk,
+        &mut line,
+        &mut journal,
+        &mut wanted,
+    )
 }

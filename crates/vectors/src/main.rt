@@ -1,6 +1,6 @@
 // main.rt - reads cases from standard input, a line each, and counts those that agree, differ and are skipped.
 // Means: nothing; proved safe.
-// Uses: compare, cases, stack_limit, io, libc, os.  Source: [01 Set down and proved], crates/vectors/README.md.
+// Uses: compare, cases, stack_limit.  Source: [01 Set down and proved], crates/vectors/README.md.
 #![tactic(auto)]
 
 use cases::lines::{NO_MORE, Reading};
@@ -8,7 +8,9 @@ use cases::tally;
 use cases::tally::Tally;
 use cases::text::field;
 use compare::verdicts;
-use libc::STDOUT_FILENO;
+use std::alloc::Global;
+use std::io;
+use std::io::Read;
 
 #[derive(Clone, Copy)]
 struct Progress {
@@ -16,42 +18,41 @@ struct Progress {
     tally: Tally,
 }
 
-fn write_reason(found: u32) -> bool {
+fn write_reason(rt: &impl Print, found: u32) -> io::Result<()> {
     match found {
-        verdicts::MALFORMED => io::write_all(STDOUT_FILENO, b": no case\n"),
-        verdicts::STEP_REFUSED => io::write_all(STDOUT_FILENO, b": the step is refused\n"),
-        verdicts::STEP_SLOTS => io::write_all(STDOUT_FILENO, b": slots after the step\n"),
-        verdicts::STEP_MEMORY => io::write_all(STDOUT_FILENO, b": memory after the step\n"),
-        verdicts::STEP_MARK => io::write_all(STDOUT_FILENO, b": mark after the step\n"),
-        verdicts::STEP_JOURNAL => io::write_all(STDOUT_FILENO, b": journal after the step\n"),
-        verdicts::STEP_CLOCKS => io::write_all(STDOUT_FILENO, b": clocks of the step\n"),
-        verdicts::UNDO_NUMBER => io::write_all(STDOUT_FILENO, b": number after the undo\n"),
-        verdicts::UNDO_SLOTS => io::write_all(STDOUT_FILENO, b": slots after the undo\n"),
-        verdicts::UNDO_MEMORY => io::write_all(STDOUT_FILENO, b": memory after the undo\n"),
-        verdicts::UNDO_MARK => io::write_all(STDOUT_FILENO, b": mark after the undo\n"),
-        _ => true,
+        verdicts::MALFORMED => rt.println(": no case"),
+        verdicts::STEP_REFUSED => rt.println(": the step is refused"),
+        verdicts::STEP_SLOTS => rt.println(": slots after the step"),
+        verdicts::STEP_MEMORY => rt.println(": memory after the step"),
+        verdicts::STEP_MARK => rt.println(": mark after the step"),
+        verdicts::STEP_JOURNAL => rt.println(": journal after the step"),
+        verdicts::STEP_CLOCKS => rt.println(": clocks of the step"),
+        verdicts::UNDO_NUMBER => rt.println(": number after the undo"),
+        verdicts::UNDO_SLOTS => rt.println(": slots after the undo"),
+        verdicts::UNDO_MEMORY => rt.println(": memory after the undo"),
+        verdicts::UNDO_MARK => rt.println(": mark after the undo"),
+        _ => Ok(()),
     }
 }
 
 // Names a case that differs, if it is among the first.
-fn report(found: u32, before: Tally, number: u64, text: &[u8]) {
+fn report(rt: &impl Print, found: u32, before: Tally, number: u64, text: &[u8]) -> io::Result<()> {
     if tally::is_named(before, found) {
-        io::write_all(STDOUT_FILENO, b"line ");
-        io::print_decimal(STDOUT_FILENO, number);
-        io::write_all(STDOUT_FILENO, b" ");
-        io::write_all(STDOUT_FILENO, field(text, 0));
-        write_reason(found);
+        print!(rt; "line {number} ")?;
+        rt.write_all(field(text, 0))?;
+        write_reason(rt, found)?;
     }
+    Ok(())
 }
 
-fn reported(p: Progress, text: &[u8], found: u32) -> Progress {
+fn reported(rt: &impl Print, p: Progress, text: &[u8], found: u32) -> io::Result<Progress> {
     let reading = p.reading;
     let so_far = p.tally;
-    report(found, so_far, reading.number, text);
-    Progress {
+    report(rt, found, so_far, reading.number, text)?;
+    Ok(Progress {
         reading,
         tally: tally::counted(so_far, found),
-    }
+    })
 }
 
 // The bytes of the line that was read, or all its room if it is too long.
@@ -102,40 +103,47 @@ fn room_of(line: &[u8], r: Reading) -> u32 {
 }
 
 fn try_small(
+    rt: &impl Print,
     p: Progress,
     text: &[u8],
     memory: &mut [u8; 65536],
     wanted: &mut [u8; 65536],
     rom: &mut [u8; 65536],
-) -> Progress {
-    reported(p, text, cases::trying::try_case(text, memory, wanted, rom))
+) -> io::Result<Progress> {
+    let found = cases::trying::try_case(text, memory, wanted, rom);
+    reported(rt, p, text, found)
 }
 
 fn try_wide(
+    rt: &impl Print,
     p: Progress,
     text: &[u8],
     memory: &mut [u8; 65536],
     wanted: &mut [u8; 65536],
     rom: &mut [u8; 1048576],
-) -> Progress {
-    reported(p, text, cases::trying::try_case(text, memory, wanted, rom))
+) -> io::Result<Progress> {
+    let found = cases::trying::try_case(text, memory, wanted, rom);
+    reported(rt, p, text, found)
 }
 
 fn try_large(
+    rt: &impl Print,
     p: Progress,
     text: &[u8],
-    memory: &mut [u8; 16777216],
-    wanted: &mut [u8; 16777216],
+    memory: &mut [u8],
+    wanted: &mut [u8],
     rom: &mut [u8; 1048576],
-) -> Progress {
-    reported(p, text, cases::trying::try_case(text, memory, wanted, rom))
+) -> io::Result<Progress> {
+    let found = cases::trying::try_case(text, memory, wanted, rom);
+    reported(rt, p, text, found)
 }
 
-fn small_case(p: Progress, line: &[u8]) -> Progress {
+fn small_case(rt: &impl Print, p: Progress, line: &[u8]) -> io::Result<Progress> {
     let mut memory = [0u8; 65536];
     let mut wanted = [0u8; 65536];
     let mut rom = [0u8; 65536];
     try_small(
+        rt,
         p,
         text_of(line, p.reading),
         &mut memory,
@@ -144,11 +152,12 @@ fn small_case(p: Progress, line: &[u8]) -> Progress {
     )
 }
 
-fn wide_case(p: Progress, line: &[u8]) -> Progress {
+fn wide_case(rt: &impl Print, p: Progress, line: &[u8]) -> io::Result<Progress> {
     let mut memory = [0u8; 65536];
     let mut wanted = [0u8; 65536];
     let mut rom = [0u8; 1048576];
     try_wide(
+        rt,
         p,
         text_of(line, p.reading),
         &mut memory,
@@ -157,11 +166,13 @@ fn wide_case(p: Progress, line: &[u8]) -> Progress {
     )
 }
 
-fn large_case(p: Progress, line: &[u8]) -> Progress {
-    let mut memory = [0u8; 16777216];
-    let mut wanted = [0u8; 16777216];
+// The two memories of 16 MiB are on the heap.
+fn large_case(rt: &impl Print, alloc: Global, p: Progress, line: &[u8]) -> io::Result<Progress> {
+    let mut memory = vec![in alloc; 0u8; 16777216]?;
+    let mut wanted = vec![in alloc; 0u8; 16777216]?;
     let mut rom = [0u8; 1048576];
     try_large(
+        rt,
         p,
         text_of(line, p.reading),
         &mut memory,
@@ -170,66 +181,81 @@ fn large_case(p: Progress, line: &[u8]) -> Progress {
     )
 }
 
-fn read_line(p: Progress, chunk: &mut [u8], line: &mut [u8]) -> Progress {
-    let reading = cases::lines::next_line(p.reading, chunk, line);
+fn read_line(
+    input: &mut impl Read,
+    p: Progress,
+    chunk: &mut [u8],
+    line: &mut [u8],
+) -> io::Result<Progress> {
+    let reading = cases::lines::next_line(input, p.reading, chunk, line)?;
     let so_far = p.tally;
-    Progress {
+    Ok(Progress {
         reading,
         tally: so_far,
-    }
+    })
 }
 
 // Tries the next 2 to the power of k lines. A compiler puts no large frame of another function into that of one that
-// calls itself: so the memories are on the stack only while they are used.
-fn try_lines(k: u32, large: bool, p: Progress, chunk: &mut [u8], line: &mut [u8]) -> Progress {
+// calls itself: so the memories that are on the stack are there only while they are used.
+fn try_lines(
+    rt: &impl Print,
+    alloc: Global,
+    input: &mut impl Read,
+    k: u32,
+    large: bool,
+    p: Progress,
+    chunk: &mut [u8],
+    line: &mut [u8],
+) -> io::Result<Progress> {
     if p.reading.state == NO_MORE {
-        return p;
+        return Ok(p);
     }
     if 0 < k {
-        let half = try_lines(k - 1, large, p, chunk, line);
-        return try_lines(k - 1, large, half, chunk, line);
+        let half = try_lines(rt, alloc, input, k - 1, large, p, chunk, line)?;
+        return try_lines(rt, alloc, input, k - 1, large, half, chunk, line);
     }
-    let q = read_line(p, chunk, line);
+    let q = read_line(input, p, chunk, line)?;
     if q.reading.state == NO_MORE {
-        return q;
+        return Ok(q);
     }
     let room = room_of(line, q.reading);
     if room == NO_CASE {
-        return reported(q, text_of(line, q.reading), verdicts::MALFORMED);
+        return reported(rt, q, text_of(line, q.reading), verdicts::MALFORMED);
     }
     if room == SMALL {
-        return small_case(q, line);
+        return small_case(rt, q, line);
     }
     if room == WIDE {
-        return wide_case(q, line);
+        return wide_case(rt, q, line);
     }
     if large {
-        return large_case(q, line);
+        return large_case(rt, alloc, q, line);
     }
-    reported(q, text_of(line, q.reading), verdicts::SKIPPED)
+    reported(rt, q, text_of(line, q.reading), verdicts::SKIPPED)
 }
 
-fn write_tally(t: Tally) {
+fn write_tally(rt: &impl Print, t: Tally) -> io::Result<()> {
     if 0 < t.skipped {
-        io::write_all(
-            STDOUT_FILENO,
-            b"skipped: memory above 65536 bytes, and no stack limit of 64 MiB or more is told\n",
-        );
+        rt.println(
+            "skipped: memory above 65536 bytes, and no stack limit of 64 MiB or more is told",
+        )?;
     }
-    tally::write(t);
+    tally::write(rt, t)
 }
 
-fn try_all(chunk: &mut [u8; 65536], line: &mut [u8; 8192]) {
+fn try_all(rt: &HostRuntime, chunk: &mut [u8; 65536], line: &mut [u8; 8192]) -> io::Result<()> {
     let p = Progress {
         reading: cases::lines::start(),
         tally: tally::nothing(),
     };
-    let q = try_lines(40, stack_limit::is_large(), p, chunk, line);
-    write_tally(q.tally);
+    let mut input = rt.reader();
+    let large = stack_limit::is_large(rt);
+    let q = try_lines(rt, rt.alloc(), &mut input, 40, large, p, chunk, line)?;
+    write_tally(rt, q.tally)
 }
 
-fn main() {
+fn main(rt: HostRuntime) -> io::Result<()> {
     let mut chunk = [0u8; 65536];
     let mut line = [0u8; 8192];
-    try_all(&mut chunk, &mut line);
+    try_all(&rt, &mut chunk, &mut line)
 }
