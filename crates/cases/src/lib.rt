@@ -1,10 +1,6 @@
 // lib.rt - cases: reads lines that list slots and bytes, puts what they list, takes a step and its undo, compares, and counts.
 // Means: of trying, that what agrees is equal; else nothing, proved safe.
-<<<<<<< HEAD
-// Uses: codes, machine, compare, io, libc.  Source: [ours], crates/vectors/README.md.
-=======
 // Uses: codes, machine, compare.  Source: [ours], crates/vectors/README.md.
->>>>>>> ef089c86781439a578dd1ee9d5660fd8b49c06dc
 #![tactic(auto)]
 
 pub mod fields;

@@ -1,10 +1,6 @@
 // main.rt - reads cases of converting a journal from standard input, a line each, and counts those that agree, differ and are skipped.
 // Means: of of_conversion, that what agrees is equal; else nothing, proved safe.
-<<<<<<< HEAD
-// Uses: forms, compare, cases, io, libc.  Source: [K8], crates/forms_cases/README.md.
-=======
 // Uses: forms, compare, cases.  Source: [K8], crates/forms_cases/README.md.
->>>>>>> ef089c86781439a578dd1ee9d5660fd8b49c06dc
 #![tactic(auto)]
 
 ghost use Rattle.std.specs.Prelude.{◌≡◌};

@@ -1,10 +1,6 @@
 // main.rt - prints the kinds of all 65,536 operation words as runs of equal names, a line to a run: first word, last word, name.
 // Means: nothing; its stored output is made from a list of names that is not ours, and shows no difference.
-<<<<<<< HEAD
-// Uses: decode, kind_table, io.  Source: [003 B], the names' parts; [K9].
-=======
 // Uses: decode, kind_table.  Source: [003 B], the names' parts; [K9].
->>>>>>> ef089c86781439a578dd1ee9d5660fd8b49c06dc
 #![tactic(auto)]
 
 ghost use Rattle.std.specs.Prelude.{◌<◌};

@@ -1,10 +1,6 @@
 // main.rt - reads cases of making room from standard input, a line each, and counts those that agree, differ and are skipped.
 // Means: of of_room, that what agrees is equal; else nothing, proved safe.
-<<<<<<< HEAD
-// Uses: oldest, compare, cases, io, libc.  Source: [K5], crates/rooms/README.md.
-=======
 // Uses: oldest, compare, cases.  Source: [K5], crates/rooms/README.md.
->>>>>>> ef089c86781439a578dd1ee9d5660fd8b49c06dc
 #![tactic(auto)]
 
 ghost use Rattle.std.specs.Prelude.{◌≡◌};
