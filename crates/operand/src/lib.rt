@@ -234,6 +234,7 @@ pub fn immediate(mem: &Parts, z: u32, f: Flow) -> Operand
 }
 
 // Mode 7, by its register number.
+#[tactic(auto, unfolding(crate::specs::Operands::special))]
 fn special(r: &[u32; SLOTS], mem: &Parts, n: u32, z: u32, f: Flow) -> Operand
     ensures { result ≡ special r.now (view_of (map (λ x. x.now) mem.now)) n z f }
 {
@@ -247,6 +248,7 @@ fn special(r: &[u32; SLOTS], mem: &Parts, n: u32, z: u32, f: Flow) -> Operand
 }
 
 // The place of the operand of a mode and a register number. No register is stepped yet.
+#[tactic(auto, unfolding(crate::specs::Operands::locate))]
 pub fn locate(r: &[u32; SLOTS], mem: &Parts, mode: u32, n: u32, z: u32, f: Flow) -> Operand
     ensures { result ≡ locate r.now (view_of (map (λ x. x.now) mem.now)) mode n z f }
 {
@@ -263,6 +265,7 @@ pub fn locate(r: &[u32; SLOTS], mem: &Parts, mode: u32, n: u32, z: u32, f: Flow)
 }
 
 // What an operand holds, cut to its size.
+#[tactic(auto, unfolding(crate::specs::Operands::load))]
 pub fn load(r: &[u32; SLOTS], mem: &Parts, p: Operand, z: u32, f: Flow) -> Fetched
     ensures { result ≡ load r.now (view_of (map (λ x. x.now) mem.now)) p z f }
 {
