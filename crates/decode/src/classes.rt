@@ -37,6 +37,7 @@ pub fn choose(test: bool, x: u32, y: u32) -> u32
 }
 
 // kind where the class allows op's low six bits, else rest
+#[tactic(auto, unfolding(crate::specs::Chain::fit))]
 pub fn fit(class: u64, op: u32, kind: u32, rest: u32) -> u32
     ensures { result ≡ fit class op kind rest }
 {

@@ -13,6 +13,7 @@ pub mod line_four;
 mod lines;
 
 // the kind of a word of sixteen bits, by its line
+#[tactic(auto, unfolding(crate::specs::Chain::of_word))]
 fn of_word(op: u32) -> u32
     ensures { result ≡ of_word op }
 {
@@ -68,6 +69,7 @@ pub fn kind_of(op: u32) -> u32
 }
 
 // Whether only supervisor state may do the kind.
+#[tactic(auto, unfolding(crate::specs::Rows::privileged))]
 pub fn privileged(kind: u32) -> bool
     ensures { result ≡ privileged kind }
 {

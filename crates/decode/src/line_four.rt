@@ -41,6 +41,7 @@ fn four_eight(op: u32) -> u32
 }
 
 // $4E70 to $4E77
+#[tactic(auto, unfolding(crate::specs::Chain::single))]
 fn single(op: u32) -> u32
     ensures { result ≡ single op }
 {
@@ -57,6 +58,7 @@ fn single(op: u32) -> u32
 }
 
 // $4E40 to $4E7F
+#[tactic(auto, unfolding(crate::specs::Chain::four_e))]
 pub fn four_e(op: u32) -> u32
     ensures { result ≡ four_e op }
 {
@@ -73,6 +75,7 @@ pub fn four_e(op: u32) -> u32
 }
 
 // line 4, bits 11 to 8 are 1110
+#[tactic(auto, unfolding(crate::specs::Chain::four_fourteen))]
 fn four_fourteen(op: u32) -> u32
     ensures { result ≡ four_fourteen op }
 {
@@ -94,6 +97,7 @@ fn four_fourteen(op: u32) -> u32
 }
 
 // line 4, bit 8 clear
+#[tactic(auto, unfolding(crate::specs::Chain::four_even))]
 fn four_even(op: u32) -> u32
     ensures { result ≡ four_even op }
 {
@@ -119,6 +123,7 @@ fn four_even(op: u32) -> u32
     }
 }
 
+#[tactic(auto, unfolding(crate::specs::Chain::line_4))]
 pub fn line_4(op: u32) -> u32
     ensures { result ≡ line_4 op }
 {

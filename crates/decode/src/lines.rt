@@ -8,6 +8,7 @@ ghost use Rattle.decode.specs.Chain.{arithmetic, pair_or_memory, logical, line_1
 use crate::{classes, kinds};
 
 // line 0, bit 8 clear: the kind that bits 11 to 9 name
+#[tactic(auto, unfolding(crate::specs::Chain::immediate_sized))]
 fn immediate_sized(op: u32) -> u32
     ensures { result ≡ immediate_sized op }
 {
@@ -23,6 +24,7 @@ fn immediate_sized(op: u32) -> u32
 }
 
 // line 0, low six bits 60: the kind that bits 11 to 6 name
+#[tactic(auto, unfolding(crate::specs::Chain::immediate_status))]
 fn immediate_status(op: u32) -> u32
     ensures { result ≡ immediate_status op }
 {
@@ -85,6 +87,7 @@ fn bit_or_movep(op: u32) -> u32
     classes::fit(classes::ADDRESS_REGISTER, op, movep, bits)
 }
 
+#[tactic(auto, unfolding(crate::specs::Chain::line_0))]
 pub fn line_0(op: u32) -> u32
     ensures { result ≡ line_0 op }
 {
