@@ -7,6 +7,7 @@ ghost use Rattle.decode.specs.Chain.{one_operand, four_eight, single, four_e, fo
 use crate::{classes, kinds};
 
 // line 4: the kind of three sizes, and what size 3 stands for
+#[tactic(auto, unfolding(crate::specs::Chain::one_operand))]
 fn one_operand(op: u32, sized: u32, class: u64, other: u32) -> u32
     ensures { result ≡ one_operand op sized class other }
 {
@@ -19,6 +20,7 @@ fn one_operand(op: u32, sized: u32, class: u64, other: u32) -> u32
 }
 
 // line 4, bits 11 to 8 are 1000
+#[tactic(auto, unfolding(crate::specs::Chain::four_eight))]
 fn four_eight(op: u32) -> u32
     ensures { result ≡ four_eight op }
 {

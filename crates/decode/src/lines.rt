@@ -40,6 +40,7 @@ fn immediate_status(op: u32) -> u32
 }
 
 // line 0, bit 8 clear and bits 11 to 9 not 4
+#[tactic(auto, unfolding(crate::specs::Chain::immediate))]
 fn immediate(op: u32) -> u32
     ensures { result ≡ immediate op }
 {
@@ -49,6 +50,7 @@ fn immediate(op: u32) -> u32
 }
 
 // line 0, bits 11 to 9 are 4 and bit 8 is clear
+#[tactic(auto, unfolding(crate::specs::Chain::bit_static))]
 fn bit_static(op: u32) -> u32
     ensures { result ≡ bit_static op }
 {
@@ -68,6 +70,7 @@ fn bit_static(op: u32) -> u32
 }
 
 // line 0, bit 8 set
+#[tactic(auto, unfolding(crate::specs::Chain::bit_or_movep))]
 fn bit_or_movep(op: u32) -> u32
     ensures { result ≡ bit_or_movep op }
 {
@@ -103,6 +106,7 @@ pub fn line_0(op: u32) -> u32
 }
 
 // lines 1 to 3: the source's class, and the kind where the destination is An
+#[tactic(auto, unfolding(crate::specs::Chain::movement))]
 pub fn movement(op: u32, source: u64, address: u32) -> u32
     ensures { result ≡ movement op source address }
 {
@@ -117,6 +121,7 @@ pub fn movement(op: u32, source: u64, address: u32) -> u32
     )
 }
 
+#[tactic(auto, unfolding(crate::specs::Chain::line_5))]
 pub fn line_5(op: u32) -> u32
     ensures { result ≡ line_5 op }
 {
@@ -139,6 +144,7 @@ pub fn line_5(op: u32) -> u32
     )
 }
 
+#[tactic(auto, unfolding(crate::specs::Chain::line_6))]
 pub fn line_6(op: u32) -> u32
     ensures { result ≡ line_6 op }
 {
@@ -147,6 +153,7 @@ pub fn line_6(op: u32) -> u32
 }
 
 // lines 9, 11 and 13: kinds to a data register, to an address register, of the registers' own form and to memory
+#[tactic(auto, unfolding(crate::specs::Chain::arithmetic))]
 pub fn arithmetic(
     op: u32,
     register: u32,
@@ -177,6 +184,7 @@ pub fn arithmetic(
 }
 
 // lines 8 and 12, bits 8 to 6 from 4 to 6: the decimal kind, the three exchanges and the kind to memory
+#[tactic(auto, unfolding(crate::specs::Chain::pair_or_memory))]
 fn pair_or_memory(op: u32, decimal: u32, plain: u32, address: u32, mixed: u32, memory: u32) -> u32
     ensures { result ≡ pair_or_memory op decimal plain address mixed memory }
 {
@@ -199,6 +207,7 @@ fn pair_or_memory(op: u32, decimal: u32, plain: u32, address: u32, mixed: u32, m
 }
 
 // lines 8 and 12: by bits 8 to 6, pairs stands for 4 to 6
+#[tactic(auto, unfolding(crate::specs::Chain::logical))]
 fn logical(op: u32, register: u32, unsigned: u32, signed: u32, pairs: u32) -> u32
     ensures { result ≡ logical op register unsigned signed pairs }
 {
@@ -212,6 +221,7 @@ fn logical(op: u32, register: u32, unsigned: u32, signed: u32, pairs: u32) -> u3
     )
 }
 
+#[tactic(auto, unfolding(crate::specs::Chain::line_14))]
 pub fn line_14(op: u32) -> u32
     ensures { result ≡ line_14 op }
 {
@@ -225,6 +235,7 @@ pub fn line_14(op: u32) -> u32
     classes::choose(op / 64 % 4 == 3, memory, kinds::SHIFT_REGISTER)
 }
 
+#[tactic(auto, unfolding(crate::specs::Chain::line_8))]
 pub fn line_8(op: u32) -> u32
     ensures { result ≡ line_8 op }
 {
@@ -239,6 +250,7 @@ pub fn line_8(op: u32) -> u32
     logical(op, kinds::OR_TO_REGISTER, kinds::DIV_U, kinds::DIV_S, pairs)
 }
 
+#[tactic(auto, unfolding(crate::specs::Chain::line_12))]
 pub fn line_12(op: u32) -> u32
     ensures { result ≡ line_12 op }
 {
