@@ -1,5 +1,5 @@
 // line_four.rt - the kinds of line 4.
-// Means: specs/Chain.antt.  Laws: proofs/ChainLaws.antt.
+// Means: specs/Chain.antt, which each function opens by itself.
 // Uses: kinds, classes.  Source: [003 B].
 ghost use Rattle.std.specs.Prelude.{◌≡◌};
 ghost use Rattle.decode.specs.Chain.{one_operand, four_eight, single, four_e, four_fourteen, four_even, line_4};

@@ -1,5 +1,5 @@
 // lines.rt - the kinds of the other lines.
-// Means: specs/Chain.antt.  Laws: proofs/ChainLaws.antt.
+// Means: specs/Chain.antt, which each function opens by itself.
 // Uses: kinds, classes.  Source: [003 B].
 ghost use Rattle.std.specs.Prelude.{◌≡◌};
 ghost use Rattle.decode.specs.Chain.{immediate_sized, immediate_status, immediate, bit_static, bit_or_movep, line_0, movement, line_5, line_6};

@@ -15,6 +15,7 @@ use flags::Flagged;
 use plan::Plan;
 
 // AND, OR, and EOR as the last.
+#[tactic(auto, unfolding(crate::specs::System::logic))]
 fn logic(which: u32, a: u32, b: u32) -> u32
     ensures { result ≡ logic which a b }
 {
@@ -30,6 +31,7 @@ fn logic(which: u32, a: u32, b: u32) -> u32
 }
 
 // ANDI, ORI, EORI to CCR.
+#[tactic(auto, unfolding(crate::specs::System::immediate_to_ccr_plan))]
 pub fn immediate_to_ccr(which: u32, mem: &Parts, f: Flow) -> Plan
     ensures { result ≡ immediate_to_ccr_plan which (view_of (map (λ x. x.now) mem.now)) f }
 {
@@ -39,6 +41,7 @@ pub fn immediate_to_ccr(which: u32, mem: &Parts, f: Flow) -> Plan
 }
 
 // ANDI, ORI, EORI to SR.
+#[tactic(auto, unfolding(crate::specs::System::immediate_to_sr_plan))]
 pub fn immediate_to_sr(which: u32, mem: &Parts, f: Flow) -> Plan
     ensures { result ≡ immediate_to_sr_plan which (view_of (map (λ x. x.now) mem.now)) f }
 {
@@ -48,6 +51,7 @@ pub fn immediate_to_sr(which: u32, mem: &Parts, f: Flow) -> Plan
 }
 
 // MOVE from SR. The flags stay as they are.
+#[tactic(auto, unfolding(crate::specs::System::move_from_sr))]
 pub fn move_from_sr(r: &mut [u32; SLOTS], mem: &Parts, op: u32, f: Flow) -> Plan
     ensures { record { r = r.new; p = result } ≡ move_from_sr r.old (view_of (map (λ x. x.now) mem.now)) op f }
 {
@@ -61,6 +65,7 @@ pub fn move_from_sr(r: &mut [u32; SLOTS], mem: &Parts, op: u32, f: Flow) -> Plan
 }
 
 // MOVE to CCR.
+#[tactic(auto, unfolding(crate::specs::System::move_to_ccr))]
 pub fn move_to_ccr(r: &mut [u32; SLOTS], mem: &Parts, op: u32, f: Flow) -> Plan
     ensures { record { r = r.new; p = result } ≡ move_to_ccr r.old (view_of (map (λ x. x.now) mem.now)) op f }
 {
@@ -70,6 +75,7 @@ pub fn move_to_ccr(r: &mut [u32; SLOTS], mem: &Parts, op: u32, f: Flow) -> Plan
 }
 
 // MOVE to SR.
+#[tactic(auto, unfolding(crate::specs::System::move_to_sr))]
 pub fn move_to_sr(r: &mut [u32; SLOTS], mem: &Parts, op: u32, f: Flow) -> Plan
     ensures { record { r = r.new; p = result } ≡ move_to_sr r.old (view_of (map (λ x. x.now) mem.now)) op f }
 {
@@ -104,6 +110,7 @@ pub fn reset_devices(f: Flow) -> Plan
 }
 
 // RTE. The jump comes before SR is written.
+#[tactic(auto, unfolding(crate::specs::System::return_exception))]
 pub fn return_exception(r: &mut [u32; SLOTS], mem: &Parts, op: u32, f: Flow) -> Plan
     ensures { record { r = r.new; p = result } ≡ return_exception r.old (view_of (map (λ x. x.now) mem.now)) op f }
 {
@@ -129,6 +136,7 @@ pub fn return_exception(r: &mut [u32; SLOTS], mem: &Parts, op: u32, f: Flow) -> 
 }
 
 // STOP. A word with S clear is refused, once it is read.
+#[tactic(auto, unfolding(crate::specs::System::stop_plan))]
 pub fn stop(mem: &Parts, f: Flow) -> Plan
     ensures { result ≡ stop_plan (view_of (map (λ x. x.now) mem.now)) f }
 {
@@ -149,6 +157,7 @@ pub fn trap(op: u32, f: Flow) -> Plan
 }
 
 // TRAPV.
+#[tactic(auto, unfolding(crate::specs::System::trap_overflow_plan))]
 pub fn trap_overflow(f: Flow) -> Plan
     ensures { result ≡ trap_overflow_plan f }
 {
@@ -160,6 +169,7 @@ pub fn trap_overflow(f: Flow) -> Plan
 }
 
 // CHK.
+#[tactic(auto, unfolding(crate::specs::System::check_bounds))]
 pub fn check_bounds(r: &mut [u32; SLOTS], mem: &Parts, op: u32, f: Flow) -> Plan
     ensures { record { r = r.new; p = result } ≡ check_bounds r.old (view_of (map (λ x. x.now) mem.now)) op f }
 {

@@ -1,9 +1,0 @@
-use Rattle.system.proofs.SystemLaws.{immediate_to_sr_is}
-use borrow.Author.Rules.{rules}
-use Rattle.system.proofs.immediate_to_sr.Statement.{statement}
-use Rattle.system.proofs.immediate_to_sr.Tie as tie
-
-pub immediate_to_sr_spec : {M : Type 1} → statement M
-immediate_to_sr_spec =
-    tie.close (tie.spec
-    (λ c κs. search rules) (λ c κs. search rules) (λ c κs. search rules) (λ c κs. search rules) (λ c. search immediate_to_sr_is))
