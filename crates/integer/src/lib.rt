@@ -18,6 +18,7 @@ use multiply_divide::Divided;
 use plan::Plan;
 
 // Destination a and source b, by the number of the operation; the definition lists the numbers.
+#[tactic(auto, unfolding(crate::specs::Integer::binary))]
 fn binary(which: u32, a: u32, b: u32, old: u32, z: u32) -> Flagged
     ensures { result ≡ binary which a b old z }
 {
@@ -32,6 +33,7 @@ fn binary(which: u32, a: u32, b: u32, old: u32, z: u32) -> Flagged
 }
 
 // Address a and source b, 32 bits.
+#[tactic(auto, unfolding(crate::specs::Integer::address_sum))]
 fn address_sum(which: u32, a: u32, b: u32) -> u32
     ensures { result ≡ address_sum which a b }
 {
@@ -42,6 +44,7 @@ fn address_sum(which: u32, a: u32, b: u32) -> u32
 }
 
 // Destination a and source b, going on from a part before: ADDX, SUBX, ABCD, SBCD.
+#[tactic(auto, unfolding(crate::specs::Integer::continuing))]
 fn continuing(which: u32, a: u32, b: u32, old: u32, z: u32) -> Flagged
     ensures { result ≡ continuing which a b old z }
 {
@@ -54,6 +57,7 @@ fn continuing(which: u32, a: u32, b: u32, old: u32, z: u32) -> Flagged
 }
 
 // NEG, NEGX, NOT, CLR, NBCD, TAS, EXT to size z.
+#[tactic(auto, unfolding(crate::specs::Integer::unary_result))]
 fn unary_result(which: u32, a: u32, old: u32, z: u32) -> Flagged
     ensures { result ≡ unary_result which a old z }
 {
@@ -69,6 +73,7 @@ fn unary_result(which: u32, a: u32, old: u32, z: u32) -> Flagged
 }
 
 // MULS, MULU.
+#[tactic(auto, unfolding(crate::specs::Integer::product_by))]
 fn product_by(which: u32, a: u32, b: u32, old: u32) -> Flagged
     ensures { result ≡ product_by which a b old }
 {
@@ -79,6 +84,7 @@ fn product_by(which: u32, a: u32, b: u32, old: u32) -> Flagged
 }
 
 // DIVS, DIVU.
+#[tactic(auto, unfolding(crate::specs::Integer::quotient_by))]
 fn quotient_by(which: u32, a: u32, b: u32, old: u32) -> Divided
     ensures { result ≡ quotient_by which a b old }
 {
@@ -89,6 +95,7 @@ fn quotient_by(which: u32, a: u32, b: u32, old: u32) -> Divided
 }
 
 // Nothing is written but the flags.
+#[tactic(auto, unfolding(crate::specs::Integer::only_flags))]
 fn only_flags(a: Flagged, f: Flow) -> Plan
     ensures { result ≡ only_flags a f }
 {
@@ -96,6 +103,7 @@ fn only_flags(a: Flagged, f: Flow) -> Plan
 }
 
 // A result and its flags, to register n.
+#[tactic(auto, unfolding(crate::specs::Integer::into_register))]
 fn into_register(r: &mut [u32; SLOTS], n: u32, z: u32, a: Flagged, f: Flow) -> Plan
     ensures { record { r = r.new; p = result } ≡ into_register r.old n z a f }
 {
@@ -104,6 +112,7 @@ fn into_register(r: &mut [u32; SLOTS], n: u32, z: u32, a: Flagged, f: Flow) -> P
 }
 
 // ADD, SUB, AND, OR, CMP <ea>,Dn.
+#[tactic(auto, unfolding(crate::specs::Integer::taken))]
 pub fn to_register(which: u32, r: &mut [u32; SLOTS], mem: &Parts, op: u32, f: Flow) -> Plan
     ensures { record { r = r.new; p = result } ≡ to_register which r.old (view_of (map (λ x. x.now) mem.now)) op f }
 {
@@ -135,6 +144,7 @@ pub fn to_memory(which: u32, r: &mut [u32; SLOTS], mem: &Parts, op: u32, f: Flow
 }
 
 // ADDI, SUBI, ANDI, ORI, EORI.
+#[tactic(auto, unfolding(crate::specs::Integer::immediate_to))]
 pub fn immediate_to(which: u32, r: &mut [u32; SLOTS], mem: &Parts, op: u32, f: Flow) -> Plan
     ensures { record { r = r.new; p = result } ≡ immediate_to which r.old (view_of (map (λ x. x.now) mem.now)) op f }
 {
@@ -144,6 +154,7 @@ pub fn immediate_to(which: u32, r: &mut [u32; SLOTS], mem: &Parts, op: u32, f: F
 }
 
 // CMPI.
+#[tactic(auto, unfolding(crate::specs::Integer::compare_immediate))]
 pub fn compare_immediate(r: &mut [u32; SLOTS], mem: &Parts, op: u32, f: Flow) -> Plan
     ensures { record { r = r.new; p = result } ≡ compare_immediate r.old (view_of (map (λ x. x.now) mem.now)) op f }
 {
@@ -163,6 +174,7 @@ pub fn quick_to(which: u32, r: &mut [u32; SLOTS], mem: &Parts, op: u32, f: Flow)
 }
 
 // ADDQ, SUBQ to An: 32 bits at any size, and no flag.
+#[tactic(auto, unfolding(crate::specs::Integer::quick_sum))]
 pub fn quick_address(which: u32, r: &mut [u32; SLOTS], op: u32, f: Flow) -> Plan
     ensures { record { r = r.new; p = result } ≡ quick_sum which r.old op f }
 {
@@ -173,6 +185,7 @@ pub fn quick_address(which: u32, r: &mut [u32; SLOTS], op: u32, f: Flow) -> Plan
 }
 
 // ADDA, SUBA: the address register as the source's step left it.
+#[tactic(auto, unfolding(crate::specs::Integer::to_address))]
 pub fn to_address(which: u32, r: &mut [u32; SLOTS], mem: &Parts, op: u32, f: Flow) -> Plan
     ensures { record { r = r.new; p = result } ≡ to_address which r.old (view_of (map (λ x. x.now) mem.now)) op f }
 {
@@ -187,6 +200,7 @@ pub fn to_address(which: u32, r: &mut [u32; SLOTS], mem: &Parts, op: u32, f: Flo
 }
 
 // CMPA: 32 bits, the address register as the source's step left it.
+#[tactic(auto, unfolding(crate::specs::Integer::compare_address))]
 pub fn compare_address(r: &mut [u32; SLOTS], mem: &Parts, op: u32, f: Flow) -> Plan
     ensures { record { r = r.new; p = result } ≡ compare_address r.old (view_of (map (λ x. x.now) mem.now)) op f }
 {
@@ -199,6 +213,7 @@ pub fn compare_address(r: &mut [u32; SLOTS], mem: &Parts, op: u32, f: Flow) -> P
 }
 
 // ADDX, SUBX, ABCD, SBCD: Dy,Dx or -(Ay),-(Ax).
+#[tactic(auto, unfolding(crate::specs::Integer::paired))]
 pub fn paired(which: u32, r: &mut [u32; SLOTS], mem: &Parts, op: u32, f: Flow) -> Plan
     ensures { record { r = r.new; p = result } ≡ paired which r.old (view_of (map (λ x. x.now) mem.now)) op f }
 {
@@ -213,6 +228,7 @@ pub fn paired(which: u32, r: &mut [u32; SLOTS], mem: &Parts, op: u32, f: Flow) -
 }
 
 // CMPM (Ay)+,(Ax)+.
+#[tactic(auto, unfolding(crate::specs::Integer::compare_memory))]
 pub fn compare_memory(r: &mut [u32; SLOTS], mem: &Parts, op: u32, f: Flow) -> Plan
     ensures { record { r = r.new; p = result } ≡ compare_memory r.old (view_of (map (λ x. x.now) mem.now)) op f }
 {
@@ -249,6 +265,7 @@ pub fn extend(r: &mut [u32; SLOTS], mem: &Parts, op: u32, f: Flow) -> Plan
 }
 
 // TST.
+#[tactic(auto, unfolding(crate::specs::Integer::test))]
 pub fn test(r: &mut [u32; SLOTS], mem: &Parts, op: u32, f: Flow) -> Plan
     ensures { record { r = r.new; p = result } ≡ test r.old (view_of (map (λ x. x.now) mem.now)) op f }
 {
@@ -259,6 +276,7 @@ pub fn test(r: &mut [u32; SLOTS], mem: &Parts, op: u32, f: Flow) -> Plan
 }
 
 // MULS, MULU <ea>,Dn.
+#[tactic(auto, unfolding(crate::specs::Integer::taken))]
 pub fn multiply(which: u32, r: &mut [u32; SLOTS], mem: &Parts, op: u32, f: Flow) -> Plan
     ensures { record { r = r.new; p = result } ≡ multiply which r.old (view_of (map (λ x. x.now) mem.now)) op f }
 {
@@ -270,6 +288,7 @@ pub fn multiply(which: u32, r: &mut [u32; SLOTS], mem: &Parts, op: u32, f: Flow)
 }
 
 // DIVS, DIVU: a zero divisor traps, with the flags set and the source's step kept.
+#[tactic(auto, unfolding(crate::specs::Integer::divide))]
 pub fn divide(which: u32, r: &mut [u32; SLOTS], mem: &Parts, op: u32, f: Flow) -> Plan
     ensures { record { r = r.new; p = result } ≡ divide which r.old (view_of (map (λ x. x.now) mem.now)) op f }
 {
