@@ -12,6 +12,7 @@ use codes::SLOTS;
 use plan::Plan;
 
 // How many places: three bits of the operation word, or the data register that they name.
+#[tactic(auto, unfolding(crate::specs::Bitwise::shift_count))]
 pub fn shift_count(r: &[u32; SLOTS], op: u32) -> u32
     ensures { result ≡ shift_count r.now op }
 {
@@ -23,6 +24,7 @@ pub fn shift_count(r: &[u32; SLOTS], op: u32) -> u32
 }
 
 // An operand of size z is moved n places.
+#[tactic(auto, unfolding(crate::specs::Bitwise::shift_place))]
 fn shift_place(
     k: u32,
     n: u32,
@@ -58,6 +60,7 @@ pub fn shift_memory(r: &mut [u32; SLOTS], mem: &Parts, op: u32, f: Flow) -> Plan
 }
 
 // A data register is taken as a long, all else as a byte.
+#[tactic(auto, unfolding(crate::specs::Bitwise::bit_size))]
 fn bit_size(op: u32) -> u32
     ensures { result ≡ bit_size op }
 {
@@ -66,6 +69,7 @@ fn bit_size(op: u32) -> u32
 }
 
 // BTST, BCHG, BCLR, BSET of bit n; BTST writes nothing.
+#[tactic(auto, unfolding(crate::specs::Bitwise::bit_place))]
 fn bit_place(n: u32, r: &mut [u32; SLOTS], mem: &Parts, op: u32, f: Flow) -> Plan
     ensures { record { r = r.new; p = result } ≡ bit_place n r.old (view_of (map (λ x. x.now) mem.now)) op f }
 {
@@ -91,6 +95,7 @@ pub fn bit_dynamic(r: &mut [u32; SLOTS], mem: &Parts, op: u32, f: Flow) -> Plan
 }
 
 // The bit's number is in the word after the operation word.
+#[tactic(auto, unfolding(crate::specs::Bitwise::bit_static))]
 pub fn bit_static(r: &mut [u32; SLOTS], mem: &Parts, op: u32, f: Flow) -> Plan
     ensures { record { r = r.new; p = result } ≡ bit_static r.old (view_of (map (λ x. x.now) mem.now)) op f }
 {

@@ -1,9 +1,0 @@
-use Rattle.bitwise.proofs.BitwiseLaws.{bit_static_is}
-use borrow.Author.Rules.{rules}
-use Rattle.bitwise.proofs.bit_static.Statement.{statement}
-use Rattle.bitwise.proofs.bit_static.Tie as tie
-
-pub bit_static_spec : {M : Type 1} → statement M
-bit_static_spec =
-    tie.close (tie.spec
-    (λ c κs. search rules) (λ c κs. search rules) (λ c. search bit_static_is))
