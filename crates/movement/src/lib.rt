@@ -17,6 +17,7 @@ use operand::{Both, Operand};
 use plan::Plan;
 
 // MOVE and MOVEA say their size in another code than the rest.
+#[tactic(auto, unfolding(crate::specs::Movement::move_size))]
 fn move_size(op: u32) -> u32
     ensures { result ≡ move_size op }
 {
@@ -34,6 +35,7 @@ fn move_size(op: u32) -> u32
 // The source's value, and the destination's place with its register stepped. All extension words come before the source is read, and
 // the source's step before the destination's address. The source is read before the destination's step: MOVE.L A0,-(A0) stores the
 // first value.
+#[tactic(auto, unfolding(crate::specs::Movement::move_operands))]
 fn move_operands(r: &mut [u32; SLOTS], mem: &Parts, op: u32, z: u32, f: Flow) -> Both
     ensures { record { r = r.new; b = result } ≡ move_operands r.old (view_of (map (λ x. x.now) mem.now)) op z f }
 {
@@ -58,6 +60,7 @@ fn move_operands(r: &mut [u32; SLOTS], mem: &Parts, op: u32, z: u32, f: Flow) ->
     }
 }
 
+#[tactic(auto, unfolding(crate::specs::Movement::move_data))]
 pub fn move_data(r: &mut [u32; SLOTS], mem: &Parts, op: u32, f: Flow) -> Plan
     ensures { record { r = r.new; p = result } ≡ move_data r.old (view_of (map (λ x. x.now) mem.now)) op f }
 {
@@ -67,6 +70,7 @@ pub fn move_data(r: &mut [u32; SLOTS], mem: &Parts, op: u32, f: Flow) -> Plan
     plan::finish(r, q, z, alu::moved(b.value, f.sr, z))
 }
 
+#[tactic(auto, unfolding(crate::specs::Movement::move_address))]
 pub fn move_address(r: &mut [u32; SLOTS], mem: &Parts, op: u32, f: Flow) -> Plan
     ensures { record { r = r.new; p = result } ≡ move_address r.old (view_of (map (λ x. x.now) mem.now)) op f }
 {
@@ -77,6 +81,7 @@ pub fn move_address(r: &mut [u32; SLOTS], mem: &Parts, op: u32, f: Flow) -> Plan
     plan::nothing(g)
 }
 
+#[tactic(auto, unfolding(crate::specs::Movement::move_quick))]
 pub fn move_quick(r: &mut [u32; SLOTS], mem: &Parts, op: u32, f: Flow) -> Plan
     ensures { record { r = r.new; p = result } ≡ move_quick r.old (view_of (map (λ x. x.now) mem.now)) op f }
 {
@@ -85,6 +90,7 @@ pub fn move_quick(r: &mut [u32; SLOTS], mem: &Parts, op: u32, f: Flow) -> Plan
     plan::nothing(plan::flagged(f, a.ccr))
 }
 
+#[tactic(auto, unfolding(crate::specs::Movement::load_address))]
 pub fn load_address(r: &mut [u32; SLOTS], mem: &Parts, op: u32, f: Flow) -> Plan
     ensures { record { r = r.new; p = result } ≡ load_address r.old (view_of (map (λ x. x.now) mem.now)) op f }
 {
@@ -95,6 +101,7 @@ pub fn load_address(r: &mut [u32; SLOTS], mem: &Parts, op: u32, f: Flow) -> Plan
 }
 
 // The address is formed before A7 falls.
+#[tactic(auto, unfolding(crate::specs::Movement::push_address))]
 pub fn push_address(r: &mut [u32; SLOTS], mem: &Parts, op: u32, f: Flow) -> Plan
     ensures { record { r = r.new; p = result } ≡ push_address r.old (view_of (map (λ x. x.now) mem.now)) op f }
 {
@@ -104,6 +111,7 @@ pub fn push_address(r: &mut [u32; SLOTS], mem: &Parts, op: u32, f: Flow) -> Plan
 }
 
 // EXG of registers i and j.
+#[tactic(auto, unfolding(crate::specs::Movement::exchange))]
 fn exchange(r: &mut [u32; SLOTS], i: u32, j: u32, f: Flow) -> Plan
     ensures { record { r = r.new; p = result } ≡ exchange r.old i j f }
 {
@@ -132,6 +140,7 @@ pub fn exchange_both(r: &mut [u32; SLOTS], mem: &Parts, op: u32, f: Flow) -> Pla
     exchange(r, op / 512 % 8, codes::A0 + op % 8, f)
 }
 
+#[tactic(auto, unfolding(crate::specs::Movement::swap))]
 pub fn swap(r: &mut [u32; SLOTS], mem: &Parts, op: u32, f: Flow) -> Plan
     ensures { record { r = r.new; p = result } ≡ swap r.old (view_of (map (λ x. x.now) mem.now)) op f }
 {
@@ -151,6 +160,7 @@ fn lowered(r: &mut [u32; SLOTS]) -> u32
 }
 
 // What is stored is An after A7 fell: LINK A7 stores A7 already lowered.
+#[tactic(auto, unfolding(crate::specs::Movement::link))]
 pub fn link(r: &mut [u32; SLOTS], mem: &Parts, op: u32, f: Flow) -> Plan
     ensures { record { r = r.new; p = result } ≡ link r.old (view_of (map (λ x. x.now) mem.now)) op f }
 {
@@ -168,6 +178,7 @@ pub fn link(r: &mut [u32; SLOTS], mem: &Parts, op: u32, f: Flow) -> Plan
 }
 
 // A7 is put before An: UNLK A7 leaves the long that was read.
+#[tactic(auto, unfolding(crate::specs::Movement::unlink))]
 pub fn unlink(r: &mut [u32; SLOTS], mem: &Parts, op: u32, f: Flow) -> Plan
     ensures { record { r = r.new; p = result } ≡ unlink r.old (view_of (map (λ x. x.now) mem.now)) op f }
 {
@@ -180,6 +191,7 @@ pub fn unlink(r: &mut [u32; SLOTS], mem: &Parts, op: u32, f: Flow) -> Plan
 }
 
 // The bytes at a and a + 2 as a word.
+#[tactic(auto, unfolding(crate::specs::Movement::every_other_word))]
 fn every_other_word(mem: &Parts, a: u32, f: Flow) -> Fetched
     ensures value { result ≡ every_other_word (view_of (map (λ x. x.now) mem.now)) a f }
     ensures value_bound { result.value < 65536 }
@@ -195,6 +207,7 @@ fn every_other_word(mem: &Parts, a: u32, f: Flow) -> Fetched
 }
 
 // A word or, if z is 2, a long of bytes that stand at every other address from a on.
+#[tactic(auto, unfolding(crate::specs::Movement::every_other))]
 fn every_other(mem: &Parts, a: u32, z: u32, f: Flow) -> Fetched
     ensures { result ≡ every_other (view_of (map (λ x. x.now) mem.now)) a z f }
 {
@@ -212,6 +225,7 @@ fn every_other(mem: &Parts, a: u32, z: u32, f: Flow) -> Fetched
     h
 }
 
+#[tactic(auto, unfolding(crate::specs::Movement::movep_to_register))]
 pub fn movep_to_register(r: &mut [u32; SLOTS], mem: &Parts, op: u32, f: Flow) -> Plan
     ensures { record { r = r.new; p = result } ≡ movep_to_register r.old (view_of (map (λ x. x.now) mem.now)) op f }
 {
@@ -224,6 +238,7 @@ pub fn movep_to_register(r: &mut [u32; SLOTS], mem: &Parts, op: u32, f: Flow) ->
     plan::nothing(wf)
 }
 
+#[tactic(auto, unfolding(crate::specs::Movement::movep_to_memory))]
 pub fn movep_to_memory(r: &mut [u32; SLOTS], mem: &Parts, op: u32, f: Flow) -> Plan
     ensures { record { r = r.new; p = result } ≡ movep_to_memory r.old (view_of (map (λ x. x.now) mem.now)) op f }
 {
