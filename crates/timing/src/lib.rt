@@ -14,6 +14,7 @@ use clocks::tables;
 use codes::SLOTS;
 
 // The row of a mode.
+#[tactic(auto, unfolding(clocks::specs::Clocks::place))]
 fn place(mode: u32, n: u32) -> u32
     ensures value { result ≡ place mode n }
     ensures upper_bound { result < 15 }
@@ -26,6 +27,7 @@ fn place(mode: u32, n: u32) -> u32
 }
 
 // The time of the operation word's effective address.
+#[tactic(auto, unfolding(clocks::specs::Clocks::operand_clocks))]
 fn operand_clocks(op: u32, long: bool) -> u8
     ensures { result ≡ operand_clocks op long }
 {
@@ -58,18 +60,21 @@ fn general(a: u8, b: u8, c: u8, d: u8, op: u32, long: bool) -> u32
     bits::wide(by_long(c, d, long)) + bits::wide(t)
 }
 
+#[tactic(auto, unfolding(clocks::specs::Clocks::sized))]
 pub fn sized(a: u8, b: u8, c: u8, d: u8, op: u32) -> u32
     ensures { result ≡ sized a b c d op }
 {
     general(a, b, c, d, op, op / 128 % 2 == 1)
 }
 
+#[tactic(auto, unfolding(clocks::specs::Clocks::addressed))]
 pub fn addressed(a: u8, b: u8, c: u8, d: u8, op: u32) -> u32
     ensures { result ≡ addressed a b c d op }
 {
     general(a, b, c, d, op, op / 256 % 2 == 1)
 }
 
+#[tactic(auto, unfolding(clocks::specs::Clocks::narrow))]
 pub fn narrow(a: u8, c: u8, op: u32) -> u32
     ensures value { result ≡ narrow a c op }
     ensures upper_bound { result < 512 }
@@ -77,6 +82,7 @@ pub fn narrow(a: u8, c: u8, op: u32) -> u32
     general(a, a, c, c, op, false)
 }
 
+#[tactic(auto, unfolding(clocks::specs::Clocks::paired))]
 pub fn paired(a: u8, b: u8, c: u8, d: u8, op: u32) -> u32
     ensures { result ≡ paired a b c d op }
 {
@@ -88,6 +94,7 @@ pub fn paired(a: u8, b: u8, c: u8, d: u8, op: u32) -> u32
     bits::wide(by_long(c, d, long))
 }
 
+#[tactic(auto, unfolding(clocks::specs::Clocks::peripheral))]
 pub fn peripheral(a: u8, b: u8, op: u32) -> u32
     ensures { result ≡ peripheral a b op }
 {
@@ -109,18 +116,21 @@ pub fn moved(op: u32) -> u32
     a + b
 }
 
+#[tactic(auto, unfolding(clocks::specs::Clocks::located))]
 pub fn located(a: u8, op: u32) -> u32
     ensures { result ≡ located a op }
 {
     bits::wide(a) + bits::wide(tables::lea(place(op / 8 % 8, op % 8)))
 }
 
+#[tactic(auto, unfolding(clocks::specs::Clocks::jumped))]
 pub fn jumped(a: u8, op: u32) -> u32
     ensures { result ≡ jumped a op }
 {
     bits::wide(a) + bits::wide(tables::jmp(place(op / 8 % 8, op % 8)))
 }
 
+#[tactic(auto, unfolding(clocks::specs::Clocks::listed))]
 fn listed(a: u8, b: u8, mem: &Parts, op: u32, f: Flow) -> u32
     ensures value { result ≡ listed a b (view_of (map (λ x. x.now) mem.now)) op f }
     ensures upper_bound { result < 4096 }
@@ -129,12 +139,14 @@ fn listed(a: u8, b: u8, mem: &Parts, op: u32, f: Flow) -> u32
     bits::ones_of(w.value) * bits::wide(by_long(a, b, op / 64 % 2 == 1))
 }
 
+#[tactic(auto, unfolding(clocks::specs::Clocks::stored))]
 pub fn stored(a: u8, b: u8, mem: &Parts, op: u32, f: Flow) -> u32
     ensures { result ≡ stored a b (view_of (map (λ x. x.now) mem.now)) op f }
 {
     bits::wide(tables::store(place(op / 8 % 8, op % 8))) + listed(a, b, mem, op, f)
 }
 
+#[tactic(auto, unfolding(clocks::specs::Clocks::loaded))]
 pub fn loaded(a: u8, b: u8, mem: &Parts, op: u32, f: Flow) -> u32
     ensures { result ≡ loaded a b (view_of (map (λ x. x.now) mem.now)) op f }
 {
@@ -142,6 +154,7 @@ pub fn loaded(a: u8, b: u8, mem: &Parts, op: u32, f: Flow) -> u32
 }
 
 // The word that MULS and MULU take, read once more: these are rare.
+#[tactic(auto, unfolding(clocks::specs::Clocks::factor))]
 fn factor(r: &[u32; SLOTS], mem: &Parts, op: u32, f: Flow) -> u32
     ensures value { result ≡ factor r.now (view_of (map (λ x. x.now) mem.now)) op f }
     ensures upper_bound { result < 65536 }
@@ -152,6 +165,7 @@ fn factor(r: &[u32; SLOTS], mem: &Parts, op: u32, f: Flow) -> u32
     w.value % 65536
 }
 
+#[tactic(auto, unfolding(clocks::specs::Clocks::signed))]
 pub fn signed(a: u8, r: &[u32; SLOTS], mem: &Parts, op: u32, f: Flow) -> u32
     ensures { result ≡ signed a r.now (view_of (map (λ x. x.now) mem.now)) op f }
 {
@@ -159,18 +173,21 @@ pub fn signed(a: u8, r: &[u32; SLOTS], mem: &Parts, op: u32, f: Flow) -> u32
     narrow(a, a, op) + bits::ones_of(x ^ (x * 2 % 65536)) * 2
 }
 
+#[tactic(auto, unfolding(clocks::specs::Clocks::unsigned))]
 pub fn unsigned(a: u8, r: &[u32; SLOTS], mem: &Parts, op: u32, f: Flow) -> u32
     ensures { result ≡ unsigned a r.now (view_of (map (λ x. x.now) mem.now)) op f }
 {
     narrow(a, a, op) + bits::ones_of(factor(r, mem, op, f)) * 2
 }
 
+#[tactic(auto, unfolding(clocks::specs::Clocks::shifted))]
 pub fn shifted(a: u8, b: u8, r: &[u32; SLOTS], op: u32) -> u32
     ensures { result ≡ shifted a b r.now op }
 {
     bits::wide(by_long(a, b, op / 128 % 2 == 1)) + bitwise::shift_count(r, op) % 64 * 2
 }
 
+#[tactic(auto, unfolding(clocks::specs::Clocks::bit_clocks))]
 pub fn bit_clocks(a: u8, op: u32) -> u32
     ensures { result ≡ bit_clocks a op }
 {
@@ -179,6 +196,7 @@ pub fn bit_clocks(a: u8, op: u32) -> u32
     bits::wide(a) + bits::wide(t) + bits::wide(operand_clocks(op, false))
 }
 
+#[tactic(auto, unfolding(clocks::specs::Clocks::branched))]
 pub fn branched(a: u8, b: u8, c: u8, op: u32, f: Flow) -> u32
     ensures { result ≡ branched a b c op f }
 {
@@ -194,6 +212,7 @@ pub fn branched(a: u8, b: u8, c: u8, op: u32, f: Flow) -> u32
 }
 
 // DBcc, whose count is known to be 0 or not.
+#[tactic(auto, unfolding(clocks::specs::Clocks::counted_by))]
 pub fn counted_by(a: u8, b: u8, c: u8, spent: bool, op: u32, f: Flow) -> u32
     ensures { result ≡ counted_by a b c spent op f }
 {
@@ -204,12 +223,14 @@ pub fn counted_by(a: u8, b: u8, c: u8, spent: bool, op: u32, f: Flow) -> u32
     bits::wide(by_long(b, c, spent))
 }
 
+#[tactic(auto, unfolding(clocks::specs::Clocks::counted))]
 pub fn counted(a: u8, b: u8, c: u8, r: &[u32; SLOTS], op: u32, f: Flow) -> u32
     ensures { result ≡ counted a b c r.now op f }
 {
     counted_by(a, b, c, operand::get(r, op % 8) % 65536 == 0, op, f)
 }
 
+#[tactic(auto, unfolding(clocks::specs::Clocks::conditional))]
 pub fn conditional(a: u8, b: u8, c: u8, op: u32, f: Flow) -> u32
     ensures { result ≡ conditional a b c op f }
 {
@@ -218,6 +239,7 @@ pub fn conditional(a: u8, b: u8, c: u8, op: u32, f: Flow) -> u32
 }
 
 // The line of a vector, and CHK's operand.
+#[tactic(auto, unfolding(clocks::specs::Clocks::exception_clocks))]
 pub fn exception_clocks(vec: u32, op: u32) -> u32
     ensures value { result ≡ exception_clocks vec op }
     ensures upper_bound { result < 512 }
