@@ -23,6 +23,7 @@ pub fn tracing(sr: u32) -> bool
 
 // D0 to D7, A0 to A6, the active stack pointer as A7, and USP beside it in supervisor state: put in their order where the slots stand, so
 // that no step copies them; what stays where it is costs nothing once compiled. No instruction reaches the three slots behind them.
+#[tactic(auto, unfolding(crate::specs::Bank::bank))]
 pub fn bank(s: &mut [u32; SLOTS])
     ensures { s.new ≡ bank s.old }
 {
@@ -81,6 +82,7 @@ pub fn bank(s: &mut [u32; SLOTS])
 }
 
 // The mode after an instruction: 1 after a STOP in supervisor state that is not traced, else 0.
+#[tactic(auto, unfolding(crate::specs::Bank::mode_after))]
 fn mode_after(sr: u32, vec: u32) -> u32
     ensures { result ≡ mode_after sr vec }
 {
@@ -122,6 +124,7 @@ fn slots_of(
 
 // The slots after an instruction that met no fault: r has the registers, and then the slots; s the slots before it. A7 goes back to the
 // pointer that was active at the start; in user state SSP stays, and of SR only the flags change.
+#[tactic(auto, unfolding(crate::specs::Bank::settle, crate::specs::Bank::usp_after, crate::specs::Bank::ssp_after, crate::specs::Bank::sr_after))]
 pub fn settle(r: &mut [u32; SLOTS], s: &[u32; SLOTS], p: Plan)
     ensures { r.new ≡ settle s.now r.old p }
 {

@@ -9,6 +9,7 @@ ghost use Rattle.frames.specs.Frames.{small_frame, fault_access, fault_rest, big
 ghost use Rattle.frames.specs.Under.{under_byte, under_word, under_long, under_small, under_access, under_rest, under_big};
 
 // From the lowest address: SR, PC.
+#[tactic(auto, unfolding(crate::specs::Frames::small_frame))]
 pub fn small_frame(mem: &mut [u8], log: &mut [u64], n: usize, a: u32, sr: u32, pc: u32) -> usize
     requires { LogOk mem.old log.old n × (n + 6 ≤ length log.old) }
     ensures mem_after { mem.new ≡ small_frame mem.old a sr pc }
@@ -19,6 +20,7 @@ pub fn small_frame(mem: &mut [u8], log: &mut [u64], n: usize, a: u32, sr: u32, p
 }
 
 // The information word and the access address of a fault.
+#[tactic(auto, unfolding(crate::specs::Frames::fault_access))]
 fn fault_access(mem: &mut [u8], log: &mut [u64], n: usize, a: u32, bad: u32) -> usize
     requires { LogOk mem.old log.old n × (n + 6 ≤ length log.old) }
     ensures mem_after { mem.new ≡ fault_access mem.old a bad }
@@ -29,6 +31,7 @@ fn fault_access(mem: &mut [u8], log: &mut [u64], n: usize, a: u32, bad: u32) -> 
 }
 
 // The operation word of a fault, SR and PC.
+#[tactic(auto, unfolding(crate::specs::Frames::fault_rest))]
 fn fault_rest(mem: &mut [u8], log: &mut [u64], n: usize, a: u32, op: u32, sr: u32, pc: u32) -> usize
     requires { LogOk mem.old log.old n × (n + 8 ≤ length log.old) }
     ensures mem_after { mem.new ≡ fault_rest mem.old a op sr pc }
@@ -39,6 +42,7 @@ fn fault_rest(mem: &mut [u8], log: &mut [u64], n: usize, a: u32, op: u32, sr: u3
 }
 
 // From the lowest address: information word, access address, operation word, SR, PC.
+#[tactic(auto, unfolding(crate::specs::Frames::big_frame))]
 pub fn big_frame(
     mem: &mut [u8],
     log: &mut [u64],
@@ -58,6 +62,7 @@ pub fn big_frame(
 }
 
 // What the byte b at place i of memory is, once a byte is put at a.
+#[tactic(auto, unfolding(crate::specs::Under::under_byte))]
 fn under_byte(i: u32, b: u32, a: u32, v: u32) -> u32
     ensures { result ≡ under_byte i b a v }
 {
@@ -68,6 +73,7 @@ fn under_byte(i: u32, b: u32, a: u32, v: u32) -> u32
     b
 }
 
+#[tactic(auto, unfolding(crate::specs::Under::under_word))]
 fn under_word(i: u32, b: u32, a: u32, v: u32) -> u32
     ensures { result ≡ under_word i b a v }
 {
@@ -75,6 +81,7 @@ fn under_word(i: u32, b: u32, a: u32, v: u32) -> u32
     under_byte(i, c, std::num::wrapping_add_u32(a, 1), v)
 }
 
+#[tactic(auto, unfolding(crate::specs::Under::under_long))]
 fn under_long(i: u32, b: u32, a: u32, v: u32) -> u32
     ensures { result ≡ under_long i b a v }
 {
@@ -83,6 +90,7 @@ fn under_long(i: u32, b: u32, a: u32, v: u32) -> u32
 }
 
 // The same byte once the frame of six bytes is put.
+#[tactic(auto, unfolding(crate::specs::Under::under_small))]
 pub fn under_small(i: u32, b: u32, a: u32, sr: u32, pc: u32) -> u32
     ensures { result ≡ under_small i b a sr pc }
 {
@@ -91,6 +99,7 @@ pub fn under_small(i: u32, b: u32, a: u32, sr: u32, pc: u32) -> u32
 }
 
 // A byte of memory once the frame of a fault is put: its first six bytes, the eight above them, all.
+#[tactic(auto, unfolding(crate::specs::Under::under_access))]
 fn under_access(i: u32, b: u32, a: u32, bad: u32) -> u32
     ensures { result ≡ under_access i b a bad }
 {
@@ -98,6 +107,7 @@ fn under_access(i: u32, b: u32, a: u32, bad: u32) -> u32
     under_long(i, c, std::num::wrapping_add_u32(a, 2), bad / 256)
 }
 
+#[tactic(auto, unfolding(crate::specs::Under::under_rest))]
 fn under_rest(i: u32, b: u32, a: u32, op: u32, sr: u32, pc: u32) -> u32
     ensures { result ≡ under_rest i b a op sr pc }
 {
@@ -105,6 +115,7 @@ fn under_rest(i: u32, b: u32, a: u32, op: u32, sr: u32, pc: u32) -> u32
     under_small(i, c, std::num::wrapping_add_u32(a, 2), sr, pc)
 }
 
+#[tactic(auto, unfolding(crate::specs::Under::under_big))]
 pub fn under_big(i: u32, b: u32, a: u32, bad: u32, op: u32, sr: u32, pc: u32) -> u32
     ensures { result ≡ under_big i b a bad op sr pc }
 {
