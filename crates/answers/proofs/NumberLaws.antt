@@ -18,8 +18,7 @@ use Rattle.bus.specs.Bus.{Board, board_of, all_of, read_long}
 use Rattle.bank.specs.Bank.{long, sr_of, mode_of}
 use Rattle.exception.specs.Exceptions.{fresh}
 use Rattle.record.specs.Limits.{longest_record, valid_status}
-use Rattle.undo.specs.declared.Answer.{Answer}
-use Rattle.undo.specs.declared.Answer.TheVariants.{Done, Refused}
+use Rattle.std.specs.Prelude.{Option, Some, None}
 use Rattle.calls.specs.declared.Manner.{Manner}
 use Rattle.calls.specs.declared.Manner.TheVariants.{Dropping, Keeping}
 use Rattle.calls.specs.Calls.{state_fits, window_end, window_fits, first_tests, reset_slots, no_room, undo_answer}
@@ -88,9 +87,9 @@ module _ (m : List ℕ) where
       let b : y.value ≡ long y.value = omega arith in cc
 
 -- undo's answer
-module _ (mark : ℕ) (a : Answer) where
-  pub undo_answer_done : (start : ℕ) → a ≡ Done start → record { number = 0; mark = start } ≡ undo_answer mark a
+module _ (mark : ℕ) (a : Option ℕ) where
+  pub undo_answer_done : (start : ℕ) → a ≡ Some start → record { number = 0; mark = start } ≡ undo_answer mark a
   undo_answer_done start e = rw e
 
-  pub undo_answer_refused : a ≡ Refused → record { number = 8; mark = mark } ≡ undo_answer mark a
+  pub undo_answer_refused : a ≡ None → record { number = 8; mark = mark } ≡ undo_answer mark a
   undo_answer_refused e = rw e
