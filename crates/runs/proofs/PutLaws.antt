@@ -7,7 +7,7 @@ use mathlib.Core.List.{List, [], ◌∷◌, ◌++◌, append_assoc, append-nil, 
 use native.Mathlib.Nat.{add-zero}
 use native.Mathlib.Omega.{arith}
 use lib.ListN.{length, get_or, take, drop, length-append, length-map, take-append-drop}
-use lib.Seq.{slice, length-slice, length-take-le, take-take, drop-append-le}
+use lib.Seq.{slice, length-slice, length-take-le, take-take, drop-append-le, get_or-take, get_or-drop}
 use Rattle.numbers.specs.Number.{number_bytes, written}
 use Rattle.numbers.proofs.WrittenLaws.{length_written, written_written, written_none}
 use Rattle.record.specs.Change.{Change, unpack, between}
@@ -49,13 +49,20 @@ left_end j₀ at all j p rest e left =
     let l : Left j₀ at all j p [] = rw e at left in
     record { place = omega (arith, l.next); bytes = sym (written_none j p) ∙ l.bytes }
 
--- ---- the entries that are left
-module _ (log : List ℕ) (k n : ℕ) (h : k < n) (l : n ≤ length log) where
-  pub olds_rest : numbers_bytes (olds (between k n log)) ≡ number_bytes (get_or log k 0 % 2 ^ 32) ++ numbers_bytes (olds (between (k + 1) n log))
-  olds_rest = ap (λ (cs : List Change). numbers_bytes (olds cs)) (between_at log k n h l)
+-- ---- the entries that are left, where the part of a log from i up to n is gone through
+pub part_at : (log : List ℕ) (i n k : ℕ) → k < n - i → get_or (take (n - i) (drop i log)) k 0 ≡ get_or log (i + k) 0
+part_at log i n k h = rw (get_or-take, get_or-drop)
 
-pub olds_none : (log : List ℕ) (k n : ℕ) → k ≤ n → n ≤ k → numbers_bytes (olds (between k n log)) ≡ []
-olds_none log k n h l = ap (λ (cs : List Change). numbers_bytes (olds cs)) (between_past log k n h l)
+pub between_part : (log : List ℕ) (i n k : ℕ) → n ≤ length log → k < n - i
+    → between (i + k) n log ≡ unpack (get_or (take (n - i) (drop i log)) k 0) ∷ between (i + (k + 1)) n log
+between_part log i n k l h =
+    let next : i + (k + 1) ≡ i + k + 1 = omega arith in
+    rw (part_at log i n k h, next) (between_at log (i + k) n (omega arith) l)
+
+pub olds_rest : (log : List ℕ) (i n k : ℕ) → n ≤ length log → k < n - i
+    → numbers_bytes (olds (between (i + k) n log))
+    ≡ number_bytes (get_or (take (n - i) (drop i log)) k 0 % 2 ^ 32) ++ numbers_bytes (olds (between (i + (k + 1)) n log))
+olds_rest log i n k l h = ap (λ (cs : List Change). numbers_bytes (olds cs)) (between_part log i n k l h)
 
 -- ---- parts of a log
 pub between_split : (log : List ℕ) (i k n : ℕ) → i ≤ k → k ≤ n → n ≤ length log → between i n log ≡ between i k log ++ between k n log

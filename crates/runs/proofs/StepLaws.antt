@@ -17,15 +17,8 @@ use Rattle.record.specs.Change.{Change, between}
 use Rattle.record.proofs.ChangeLaws.{unpacked}
 use Rattle.undo.specs.Undo.{parsed, broken, read_changes, found, none, all_valid}
 use Rattle.undo.proofs.ReadLaws.{filled}
-use Rattle.undo.specs.declared.Run.{Run}
-use Rattle.undo.specs.declared.Run.TheVariants.{From, Broken}
 use Rattle.runs.specs.Runs.{read_olds, read_runs}
 use Rattle.runs.specs.Two.{read_two, shaped_two}
-use Rattle.runs.specs.Answers.{OldsIs, OneRunIs, AllRunsIs}
-use Rattle.runs.specs.declared.OneRun.{OneRun}
-use Rattle.runs.specs.declared.OneRun.TheVariants as one
-use Rattle.runs.specs.declared.AllRuns.{AllRuns}
-use Rattle.runs.specs.declared.AllRuns.TheVariants as all
 use Rattle.runs.proofs.ReadRunLaws.{old_step}
 
 -- ---- one turn of reading old bytes
@@ -60,14 +53,6 @@ filled_at out at k n p o h l m b =
     let f = filled out (at + k) n (p * 2 ^ 32 + o) (omega arith) l m in
     (rw ix at f) ∙ ap (λ (x : Change). x ∷ between (at + k) n out) (unpacked p o b)
 
--- ---- what reading old bytes answered
-module _ (j : List ℕ) (end n a : ℕ) (out₀ : List ℕ) (at : ℕ) (out : List ℕ) (r : Run) (t : OldsIs j end n a out₀ at out r) where
-  pub olds_broken : r ≡ Broken → OldsIs j end n a out₀ at out Broken
-  olds_broken q = rw q at t
-
-  pub olds_from : (s : ℕ) → r ≡ From s → OldsIs j end n a out₀ at out (From s)
-  olds_from s q = rw q at t
-
 -- ---- the parts of a run
 module _ (lim room : ℕ) (s : List ℕ) (acc : List Change) where
   pub length_bad : read_number s ≡ bad → (k : ℕ) → read_runs (suc k) lim room s acc ≡ broken
@@ -93,14 +78,6 @@ module _ (lim room : ℕ) (s : List ℕ) (acc : List Change) where
             pub run_olds_broken : read_olds n a s₂ acc ≡ broken → (k : ℕ) → read_runs (suc k) lim room s acc ≡ broken
             run_olds_broken e k = rw (e₁, lt-ltb 0 n some, le-leb n room few, e₂, lt-ltb (a + n) lim low, e)
 
--- ---- what reading a run answered
-module _ (j : List ℕ) (end lim room : ℕ) (out₀ out : List ℕ) (r : OneRun) (t : OneRunIs j end lim room out₀ out r) where
-  pub run_broken : r ≡ one.Broken → OneRunIs j end lim room out₀ out one.Broken
-  run_broken q = rw q at t
-
-  pub run_at : (s at a : ℕ) → r ≡ one.At s at a → OneRunIs j end lim room out₀ out (one.At s at a)
-  run_at s at a q = rw q at t
-
 -- a turn of reading runs
 pub runs_none : (k lim room : ℕ) (s : List ℕ) (acc : List Change) → 0 < k → ((n : ℕ) → read_runs (suc n) lim room s acc ≡ broken)
     → read_runs k lim room s acc ≡ broken
@@ -111,14 +88,6 @@ pub runs_next : (k lim room : ℕ) (s : List ℕ) (acc : List Change) (a at : �
     → ((n : ℕ) → read_runs (suc n) lim room s acc ≡ read_runs n a at s₁ acc₁) → read_runs k lim room s acc ≡ read_runs (k - 1) a at s₁ acc₁
 runs_next zero lim room s acc a at s₁ acc₁ h f = absurd (not-suc-le-zero h)
 runs_next (suc k) lim room s acc a at s₁ acc₁ h f = rw (sub-one (suc k)) (f k)
-
--- ---- what reading runs answered
-module _ (j : List ℕ) (end n : ℕ) (out : List ℕ) (x : AllRuns) (t : AllRunsIs j end n out x) where
-  pub runs_broken : x ≡ all.Broken → AllRunsIs j end n out all.Broken
-  runs_broken q = rw q at t
-
-  pub runs_from : (s i : ℕ) → x ≡ all.From s i → AllRunsIs j end n out (all.From s i)
-  runs_from s i q = rw q at t
 
 -- ---- a record of form 2, part by part
 module _ (s : List ℕ) where

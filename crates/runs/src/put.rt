@@ -15,12 +15,9 @@ fn put_olds(out: &mut [u8], at: usize, log: &[u64], i: usize, n: usize) -> usize
     requires { (i ≤ n) × (n ≤ length log.now) × (at + length (numbers_bytes (olds (between i n log.now))) ≤ length out.old) }
     ensures { BytesPut out.old at (numbers_bytes (olds (between i n log.now))) out.new result }
 {
-    let mut k = i;
     let mut p = at;
-    while k < n {
-        let e = log[k];
-        p = put_number(out, p, (e % 4294967296) as u32);
-        k += 1;
+    for e in &log[i..n] {
+        p = put_number(out, p, (*e % 4294967296) as u32);
     }
     p
 }
@@ -30,17 +27,15 @@ fn run_end(log: &[u64], i: usize, n: usize) -> usize
     requires { (i < n) × (n ≤ length log.now) }
     ensures { RunEnd log.now i n result }
 {
-    let mut k = i + 1;
     let mut last = log[i] / 4294967296;
-    while k < n {
+    for k in i + 1..n {
         let place = log[k] / 4294967296;
         if place != last + 1 {
             return k;
         }
         last = place;
-        k += 1;
     }
-    k
+    n
 }
 
 // Writes the run of a log's entries from i up to n.
