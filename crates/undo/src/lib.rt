@@ -9,86 +9,70 @@ ghost use Rattle.record.specs.Limits.{slot_limit, byte_limit};
 ghost use Rattle.record.specs.Change.{Ascending, ByteOlds, changes, restore};
 ghost use Rattle.undo.specs.Undo.{RunIs, RecordIs, read_record, shaped_record, all_valid, valid_for, differs, undo_of};
 
-use numbers::{Reading, read_number};
+use numbers::read_number;
 use record::limits::{BYTE_LIMIT, SLOT_LIMIT, valid_value};
-
-// Where a run of changes starts, or that it is none.
-#[derive(Clone, Copy)]
-pub enum Run {
-    From(usize),
-    Broken,
-}
 
 // The counts of slots and bytes of a record, and where it starts.
 #[derive(Clone, Copy)]
-pub enum Last {
-    Found(usize, usize, usize),
-    Nothing,
+pub struct Last {
+    pub slots: usize,
+    pub bytes: usize,
+    pub start: usize,
 }
 
-// The new mark, or a refusal.
-#[derive(Clone, Copy)]
-pub enum Answer {
-    Done(usize),
-    Refused,
-}
-
-// Reads n changes back from place end into the first n entries of out, each place below the one after it and the last below limit.
-pub fn read_changes(journal: &[u8], end: usize, n: usize, limit: usize, out: &mut [u64]) -> Run
+// Reads n changes back from place end into the first n entries of out, each place below the one after it and the last below limit: where
+// they start, if there are such.
+pub fn read_changes(
+    journal: &[u8],
+    end: usize,
+    n: usize,
+    limit: usize,
+    out: &mut [u64],
+) -> Option<usize>
     requires { (end ≤ length journal.now) × (n ≤ length out.old) }
     ensures { RunIs journal.now end n limit out.new result }
 {
-    let mut k = n;
     let mut e = end;
     let mut lim = limit;
-    while 0 < k {
-        let Reading::Number(old, e1) = read_number(journal, e) else {
-            return Run::Broken;
-        };
-        let Reading::Number(place, e2) = read_number(journal, e1) else {
-            return Run::Broken;
-        };
+    for k in (0..n).rev() {
+        let (old, e1) = read_number(journal, e)?;
+        let (place, e2) = read_number(journal, e1)?;
         if lim <= (place as usize) {
-            return Run::Broken;
+            return None;
         }
-        k -= 1;
         out[k] = (place as u64) * 4294967296 + (old as u64);
         lim = place as usize;
         e = e2;
     }
-    Run::From(e)
+    Some(e)
 }
 
-// Reads the record that ends at the mark: its slots' changes into slots, its bytes' into bytes.
+// Reads the record that ends at the mark, if there is one: its slots' changes into slots, its bytes' into bytes.
 fn read_record(
     journal: &[u8],
     mark: usize,
     len: usize,
     slots: &mut [u64],
     bytes: &mut [u64],
-) -> Last
+) -> Option<Last>
     requires { (mark ≤ length journal.now) × (slot_limit ≤ length slots.old) × (byte_limit ≤ length bytes.old) }
     ensures { RecordIs (read_record len (back journal.now mark)) len journal.now mark slots.new bytes.new result }
 {
-    let Reading::Number(nb, e1) = read_number(journal, mark) else {
-        return Last::Nothing;
-    };
+    let (nb, e1) = read_number(journal, mark)?;
     if BYTE_LIMIT < (nb as usize) {
-        return Last::Nothing;
+        return None;
     }
-    let Reading::Number(ns, e2) = read_number(journal, e1) else {
-        return Last::Nothing;
-    };
+    let (ns, e2) = read_number(journal, e1)?;
     if SLOT_LIMIT < (ns as usize) {
-        return Last::Nothing;
+        return None;
     }
-    let Run::From(e3) = read_changes(journal, e2, nb as usize, len, bytes) else {
-        return Last::Nothing;
-    };
-    let Run::From(e4) = read_changes(journal, e3, ns as usize, SLOT_LIMIT, slots) else {
-        return Last::Nothing;
-    };
-    Last::Found(ns as usize, nb as usize, e4)
+    let e3 = read_changes(journal, e2, nb as usize, len, bytes)?;
+    let start = read_changes(journal, e3, ns as usize, SLOT_LIMIT, slots)?;
+    Some(Last {
+        slots: ns as usize,
+        bytes: nb as usize,
+        start,
+    })
 }
 
 // Whether a place of memory, or else a slot, can hold v.
@@ -106,14 +90,10 @@ pub fn all_valid(bytes: bool, log: &[u64], n: usize) -> bool
     requires { n ≤ length log.now }
     ensures { result ≡ all_valid (valid_for bytes) (changes log.now n) }
 {
-    let mut i = 0;
-    while i < n {
-        let e = log[i];
-        let valid = valid_for(bytes, (e / 4294967296) as u32, (e % 4294967296) as u32);
-        if !valid {
+    for &e in &log[..n] {
+        if !valid_for(bytes, (e / 4294967296) as u32, (e % 4294967296) as u32) {
             return false;
         }
-        i += 1;
     }
     true
 }
@@ -125,20 +105,15 @@ pub fn shaped_record(
     len: usize,
     slots: &mut [u64],
     bytes: &mut [u64],
-) -> Last
+) -> Option<Last>
     requires { (mark ≤ length journal.now) × (slot_limit ≤ length slots.old) × (byte_limit ≤ length bytes.old) }
     ensures { RecordIs (shaped_record len (back journal.now mark)) len journal.now mark slots.new bytes.new result }
 {
-    let Last::Found(ns, nb, start) = read_record(journal, mark, len, slots, bytes) else {
-        return Last::Nothing;
-    };
-    if !all_valid(false, slots, ns) {
-        return Last::Nothing;
+    let last = read_record(journal, mark, len, slots, bytes)?;
+    if !all_valid(false, slots, last.slots) || !all_valid(true, bytes, last.bytes) {
+        return None;
     }
-    if !all_valid(true, bytes, nb) {
-        return Last::Nothing;
-    }
-    Last::Found(ns, nb, start)
+    Some(last)
 }
 
 // Whether no old value of a log is the one that its slot holds.
@@ -146,14 +121,10 @@ fn slots_differ(slots: &[u32], log: &[u64], n: usize) -> bool
     requires { (n ≤ length log.now) × Ascending 0 (length slots.now) (changes log.now n) }
     ensures { result ≡ differs slots.now (changes log.now n) }
 {
-    let mut i = 0;
-    while i < n {
-        let e = log[i];
-        let a = (e / 4294967296) as usize;
-        if e % 4294967296 == (slots[a] as u64) {
+    for &e in &log[..n] {
+        if e % 4294967296 == (slots[(e / 4294967296) as usize] as u64) {
             return false;
         }
-        i += 1;
     }
     true
 }
@@ -163,14 +134,10 @@ fn bytes_differ(memory: &[u8], log: &[u64], n: usize) -> bool
     requires { (n ≤ length log.now) × Ascending 0 (length memory.now) (changes log.now n) }
     ensures { result ≡ differs memory.now (changes log.now n) }
 {
-    let mut i = 0;
-    while i < n {
-        let e = log[i];
-        let a = (e / 4294967296) as usize;
-        if e % 4294967296 == (memory[a] as u64) {
+    for &e in &log[..n] {
+        if e % 4294967296 == (memory[(e / 4294967296) as usize] as u64) {
             return false;
         }
-        i += 1;
     }
     true
 }
@@ -180,12 +147,8 @@ fn restore_slots(slots: &mut [u32], log: &[u64], n: usize)
     requires { (n ≤ length log.now) × Ascending 0 (length slots.old) (changes log.now n) }
     ensures { slots.new ≡ restore (changes log.now n) slots.old }
 {
-    let mut i = 0;
-    while i < n {
-        let e = log[i];
-        let a = (e / 4294967296) as usize;
-        slots[a] = (e % 4294967296) as u32;
-        i += 1;
+    for &e in &log[..n] {
+        slots[(e / 4294967296) as usize] = (e % 4294967296) as u32;
     }
 }
 
@@ -194,35 +157,30 @@ pub fn restore_bytes(memory: &mut [u8], log: &[u64], n: usize)
     requires { (n ≤ length log.now) × Ascending 0 (length memory.old) (changes log.now n) × ByteOlds (changes log.now n) }
     ensures { memory.new ≡ restore (changes log.now n) memory.old }
 {
-    let mut i = 0;
-    while i < n {
-        let e = log[i];
-        let a = (e / 4294967296) as usize;
-        memory[a] = (e % 4294967296 % 256) as u8;
-        i += 1;
+    for &e in &log[..n] {
+        memory[(e / 4294967296) as usize] = (e % 4294967296 % 256) as u8;
     }
 }
 
-// Puts back what the last record says, where it is well formed.
-pub fn undo(slots: &mut [u32; SLOT_LIMIT], memory: &mut [u8], journal: &[u8], mark: usize) -> Answer
+// Puts back what the last record says, where it is well formed: the new mark, or none where it is refused.
+pub fn undo(
+    slots: &mut [u32; SLOT_LIMIT],
+    memory: &mut [u8],
+    journal: &[u8],
+    mark: usize,
+) -> Option<usize>
     ensures { undo_of slots.old memory.old journal.now mark ≡ record { slots = slots.new; memory = memory.new; answer = result } }
 {
     if journal.len() < mark {
-        return Answer::Refused;
+        return None;
     }
     let mut s = [0u64; SLOT_LIMIT];
     let mut b = [0u64; BYTE_LIMIT];
-    let Last::Found(ns, nb, start) = shaped_record(journal, mark, memory.len(), &mut s, &mut b)
-    else {
-        return Answer::Refused;
-    };
-    if !slots_differ(slots, &s, ns) {
-        return Answer::Refused;
+    let last = shaped_record(journal, mark, memory.len(), &mut s, &mut b)?;
+    if !slots_differ(slots, &s, last.slots) || !bytes_differ(memory, &b, last.bytes) {
+        return None;
     }
-    if !bytes_differ(memory, &b, nb) {
-        return Answer::Refused;
-    }
-    restore_slots(slots, &s, ns);
-    restore_bytes(memory, &b, nb);
-    Answer::Done(start)
+    restore_slots(slots, &s, last.slots);
+    restore_bytes(memory, &b, last.bytes);
+    Some(last.start)
 }
