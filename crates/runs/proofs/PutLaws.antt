@@ -204,6 +204,3 @@ runs_rest log k n f e = ap runs_bytes e.run
 
 pub runs_count : (log : List ℕ) (k n f : ℕ) → RunEnd log k n f → length (runs (between k n log)) ≡ suc (length (runs (between f n log)))
 runs_count log k n f e = ap length e.run
-
-pub runs_past : (log : List ℕ) (k n : ℕ) → k ≤ n → n ≤ k → runs (between k n log) ≡ []
-runs_past log k n h l = ap runs (between_past log k n h l)

@@ -84,6 +84,7 @@ fn read_runs(journal: &[u8], end: usize, n: usize, out: &mut [u64]) -> Option<Al
 }
 
 // Reads the well-shaped record of form 2 that ends at the mark: its slots' changes into slots, its bytes' into the last entries of bytes.
+#[tactic(auto, unfolding(crate::specs::Two::shaped_two, crate::specs::Two::read_two))]
 pub fn shaped_two(
     journal: &[u8],
     mark: usize,
