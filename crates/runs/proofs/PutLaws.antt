@@ -156,36 +156,40 @@ module _ (log : List ℕ) (i k n : ℕ) (h : i < k) (l : k ≤ n) (m : n ≤ len
 pub put_none : (j : List ℕ) (at : ℕ) → BytesPut j at [] j at
 put_none j at = record { place = sym (add-zero at); bytes = sym (written_none j at) }
 
-module _ (j₀ : List ℕ) (at : ℕ) (a b c d : List ℕ) (fits : at + length (a ++ (b ++ (c ++ d))) ≤ length j₀) where
+-- there is room for them
+pub record FourFit (j₀ : List ℕ) (at : ℕ) (a b c d : List ℕ) : Type 0 where
+  pub room : at + length (a ++ (b ++ (c ++ d))) ≤ length j₀
+
+module _ (j₀ : List ℕ) (at : ℕ) (a b c d : List ℕ) (fits : FourFit j₀ at a b c d) where
   abbrev all : List ℕ
   all = a ++ (b ++ (c ++ d))
 
   pub room_1 : at + length a ≤ length j₀
-  room_1 = omega (arith, length-append a (b ++ (c ++ d)))
+  room_1 = omega (arith, fits.room, length-append a (b ++ (c ++ d)))
 
   module _ (p₁ : ℕ) (j₁ : List ℕ) (w₁ : BytesPut j₀ at a j₁ p₁) where
     left_1 : Left j₀ at all j₁ p₁ (b ++ (c ++ d))
-    left_1 = left_put j₀ at all fits j₀ at all a (b ++ (c ++ d)) refl (left_start j₀ at all all refl) p₁ j₁ w₁
+    left_1 = left_put j₀ at all fits.room j₀ at all a (b ++ (c ++ d)) refl (left_start j₀ at all all refl) p₁ j₁ w₁
 
     pub room_2 : p₁ + length b ≤ length j₁
-    room_2 = left_room j₀ at all fits j₁ p₁ (b ++ (c ++ d)) b (c ++ d) refl left_1
+    room_2 = left_room j₀ at all fits.room j₁ p₁ (b ++ (c ++ d)) b (c ++ d) refl left_1
 
     module _ (p₂ : ℕ) (j₂ : List ℕ) (w₂ : BytesPut j₁ p₁ b j₂ p₂) where
       left_2 : Left j₀ at all j₂ p₂ (c ++ d)
-      left_2 = left_put j₀ at all fits j₁ p₁ (b ++ (c ++ d)) b (c ++ d) refl left_1 p₂ j₂ w₂
+      left_2 = left_put j₀ at all fits.room j₁ p₁ (b ++ (c ++ d)) b (c ++ d) refl left_1 p₂ j₂ w₂
 
       pub room_3 : p₂ + length c ≤ length j₂
-      room_3 = left_room j₀ at all fits j₂ p₂ (c ++ d) c d refl left_2
+      room_3 = left_room j₀ at all fits.room j₂ p₂ (c ++ d) c d refl left_2
 
       module _ (p₃ : ℕ) (j₃ : List ℕ) (w₃ : BytesPut j₂ p₂ c j₃ p₃) where
         left_3 : Left j₀ at all j₃ p₃ d
-        left_3 = left_put j₀ at all fits j₂ p₂ (c ++ d) c d refl left_2 p₃ j₃ w₃
+        left_3 = left_put j₀ at all fits.room j₂ p₂ (c ++ d) c d refl left_2 p₃ j₃ w₃
 
         pub room_4 : p₃ + length d ≤ length j₃
-        room_4 = left_room j₀ at all fits j₃ p₃ d d [] (sym (append-nil d)) left_3
+        room_4 = left_room j₀ at all fits.room j₃ p₃ d d [] (sym (append-nil d)) left_3
 
         pub all_put : (p₄ : ℕ) (j₄ : List ℕ) → BytesPut j₃ p₃ d j₄ p₄ → BytesPut j₀ at all j₄ p₄
-        all_put p₄ j₄ w₄ = left_end j₀ at all j₄ p₄ [] refl (left_put j₀ at all fits j₃ p₃ d d [] (sym (append-nil d)) left_3 p₄ j₄ w₄)
+        all_put p₄ j₄ w₄ = left_end j₀ at all j₄ p₄ [] refl (left_put j₀ at all fits.room j₃ p₃ d d [] (sym (append-nil d)) left_3 p₄ j₄ w₄)
 
 -- ---- the parts of a run and of a record
 pub run_parts : (log : List ℕ) (i n : ℕ) → n ≤ length log
