@@ -3,7 +3,7 @@
 // Uses: record, numbers, bits.  Source: [01 The journal].
 #![tactic(auto)]
 
-ghost use Rattle.std.specs.Prelude.{◌≡◌, ◌≤◌, ◌<◌, length};
+ghost use Rattle.std.specs.Prelude.{◌≡◌, ℕ, ◌%◌, ◌^◌, ◌≤◌, ◌<◌, map, length, slice_index};
 ghost use Rattle.numbers.specs.Number.{back};
 ghost use Rattle.record.specs.Limits.{slot_limit, byte_limit};
 ghost use Rattle.record.specs.Change.{Ascending, ByteOlds, changes, restore};
@@ -116,39 +116,27 @@ pub fn shaped_record(
     Some(last)
 }
 
-// Whether no old value of a log is the one that its slot holds.
-fn slots_differ(slots: &[u32], log: &[u64], n: usize) -> bool
-    requires { (n ≤ length log.now) × Ascending 0 (length slots.now) (changes log.now n) }
-    ensures { result ≡ differs slots.now (changes log.now n) }
+// Whether no old value of a log is the one that its place, a slot or a byte of memory, holds.
+fn differ<T: Copy + Into<u64>>(held: &[T], log: &[u64], n: usize) -> bool
+    requires { (n ≤ length log.now) × Ascending 0 (length held.now) (changes log.now n) }
+    ensures { (value : T → ℕ) → ((x : T) (y : ℕ) → T.converts x y → y ≡ value x) → result ≡ differs (map value held.now) (changes log.now n) }
 {
     for &e in &log[..n] {
-        if e % 4294967296 == (slots[(e / 4294967296) as usize] as u64) {
+        if e % 4294967296 == held[(e / 4294967296) as usize].into() {
             return false;
         }
     }
     true
 }
 
-// Whether no old value of a log is the byte that memory holds.
-fn bytes_differ(memory: &[u8], log: &[u64], n: usize) -> bool
-    requires { (n ≤ length log.now) × Ascending 0 (length memory.now) (changes log.now n) }
-    ensures { result ≡ differs memory.now (changes log.now n) }
+// Puts a log's old values back, each as of makes it of an entry.
+fn restore<T: Copy, F: Fn(u64) -> T>(held: &mut [T], log: &[u64], n: usize, of: F)
+    requires callable { F.IsAlwaysCallable of }
+    requires places { (n ≤ length log.now) × Ascending 0 (length held.old) (changes log.now n) }
+    ensures { (value : T → ℕ) → ((i : ℕ) (x : T) → i < n → F.post of (slice_index log.now i) x → value x ≡ slice_index log.now i % 2 ^ 32) → map value held.new ≡ restore (changes log.now n) (map value held.old) }
 {
     for &e in &log[..n] {
-        if e % 4294967296 == (memory[(e / 4294967296) as usize] as u64) {
-            return false;
-        }
-    }
-    true
-}
-
-// Puts a log's old values back into slots.
-fn restore_slots(slots: &mut [u32], log: &[u64], n: usize)
-    requires { (n ≤ length log.now) × Ascending 0 (length slots.old) (changes log.now n) }
-    ensures { slots.new ≡ restore (changes log.now n) slots.old }
-{
-    for &e in &log[..n] {
-        slots[(e / 4294967296) as usize] = (e % 4294967296) as u32;
+        held[(e / 4294967296) as usize] = of(e);
     }
 }
 
@@ -157,9 +145,7 @@ pub fn restore_bytes(memory: &mut [u8], log: &[u64], n: usize)
     requires { (n ≤ length log.now) × Ascending 0 (length memory.old) (changes log.now n) × ByteOlds (changes log.now n) }
     ensures { memory.new ≡ restore (changes log.now n) memory.old }
 {
-    for &e in &log[..n] {
-        memory[(e / 4294967296) as usize] = (e % 4294967296 % 256) as u8;
-    }
+    restore(memory, log, n, |e| (e % 256) as u8);
 }
 
 // Puts back what the last record says, where it is well formed: the new mark, or none where it is refused.
@@ -177,10 +163,10 @@ pub fn undo(
     let mut s = [0u64; SLOT_LIMIT];
     let mut b = [0u64; BYTE_LIMIT];
     let last = shaped_record(journal, mark, memory.len(), &mut s, &mut b)?;
-    if !slots_differ(slots, &s, last.slots) || !bytes_differ(memory, &b, last.bytes) {
+    if !differ(slots, &s, last.slots) || !differ(memory, &b, last.bytes) {
         return None;
     }
-    restore_slots(slots, &s, last.slots);
+    restore(slots, &s, last.slots, |e| (e % 4294967296) as u32);
     restore_bytes(memory, &b, last.bytes);
     Some(last.start)
 }
