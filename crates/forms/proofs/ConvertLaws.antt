@@ -2,17 +2,15 @@
 -- Speaks of: ConvertedIs, SpaceIs and MeasuredIs of specs/Answers.antt, convert of specs/Forms.antt.  Assumes nothing.  Source: [K8].
 use Prim.Native.Nat.{ℕ, ◌+◌, ◌-◌, ◌≤◌, ◌<◌}
 use mathlib.Core.Path.{◌≡◌, refl, sym, ap, ◌∙◌}
-use mathlib.Core.Bool.{Bool, true, false}
 use mathlib.Core.List.{List, [], ◌∷◌, ◌++◌, append_assoc}
 use native.Mathlib.Nat.{zero-add}
-use native.Mathlib.Numerals.{add-one}
 use native.Mathlib.Omega.{arith}
-use lib.ListN.{length, get_or, set, take, drop, length-append}
+use lib.ListN.{length, get_or, take, drop, length-append}
 use lib.Seq.{take_at, drop_at, drop-drop, take-take, take-append-le, length-take-le}
 use borrow.Rule.Slice.PartMut.{put_mid, post_of}
 use Rattle.codes.specs.Codes.{Addresses}
 use Rattle.numbers.specs.Number.{back, written}
-use Rattle.numbers.proofs.WrittenLaws.{length_written, written_snoc}
+use Rattle.numbers.proofs.WrittenLaws.{length_written}
 use Rattle.record.specs.Limits.{longest_record_two}
 use Rattle.undo.specs.Undo.{found, none}
 use Rattle.oldest.specs.Room.{Row, rows, torn, read_rows}
@@ -23,7 +21,7 @@ use Rattle.forms.specs.declared.Form.{Form}
 use Rattle.forms.specs.declared.FormAnswer.{FormAnswer}
 use Rattle.forms.specs.declared.Unfit.{Unfit}
 use Rattle.forms.specs.declared.Unfit.TheVariants.{NotShaped, TooShort}
-use Rattle.std.specs.Prelude.{Option, Result, Ok, Err}
+use Rattle.std.specs.Prelude.{Option, Ok, Err}
 use Rattle.forms.specs.Forms.{other, record_in, read_in, journal_in, rows_in, not_shaped, too_short, FormCall, convert}
 use Rattle.forms.specs.Promises.{ConvertPromise}
 use Rattle.forms.specs.Answers.{SpaceIs, MeasuredIs, refusal}

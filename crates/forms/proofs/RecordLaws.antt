@@ -2,11 +2,9 @@
 -- Speaks of: record_in of specs/Forms.antt, specs/Answers.antt.  Assumes nothing.  Source: [K8].
 use Prim.Native.Nat.{ℕ, ◌+◌, ◌-◌, ◌/◌, ◌%◌, ◌^◌, ◌≤◌, ◌<◌}
 use mathlib.Core.Path.{◌≡◌, ap, ◌∙◌}
-use mathlib.Core.List.{List, [], ◌++◌, append_assoc}
-use native.Mathlib.Omega.{arith}
+use mathlib.Core.List.{List, ◌++◌, append_assoc}
 use lib.ListN.{length, get_or, take, drop}
-use Rattle.codes.specs.Codes.{Addresses}
-use Rattle.numbers.specs.Number.{number_bytes, back}
+use Rattle.numbers.specs.Number.{number_bytes}
 use Rattle.record.specs.Change.{Change, changes_bytes, between, record_of}
 use Rattle.record.specs.declared.Put.{Put}
 use Rattle.runs.specs.Two.{record_two}
@@ -14,7 +12,7 @@ use Rattle.runs.specs.Answers.{PartPut}
 use Rattle.runs.proofs.PutLaws.{between_part}
 use Rattle.forms.specs.declared.Form.{Form}
 use Rattle.forms.specs.declared.Form.TheVariants.{One, Two}
-use Rattle.forms.specs.Forms.{record_in, read_in}
+use Rattle.forms.specs.Forms.{record_in}
 use Rattle.forms.specs.Answers.{part_bytes, part_count}
 
 -- ---- the changes that are left

@@ -3,19 +3,19 @@
 -- Assumes nothing.  Source: [K8].
 use Prim.Native.Nat.{ℕ, zero, suc, ◌+◌, ◌-◌, ◌*◌, ◌^◌, ◌≤◌, ◌<◌}
 use mathlib.Core.Path.{◌≡◌, ap, ◌∙◌}
-use mathlib.Core.Bool.{true, false}
+use mathlib.Core.Bool.{true}
 use mathlib.Core.List.{List, [], ◌∷◌}
 use native.Mathlib.Nat.{not-suc-le-zero}
 use native.Mathlib.Numerals.{sub-one}
 use native.Mathlib.Omega.{arith}
 use lib.ListN.{length, set}
-use borrow.Author.Tests.{lt-ltb, le-ltb, le-leb, lt-leb}
-use Rattle.numbers.specs.Number.{got, bad, read_number}
+use borrow.Author.Tests.{le-leb}
+use Rattle.numbers.specs.Number.{got, read_number}
 use Rattle.codes.specs.Codes.{Addresses}
 use Rattle.record.specs.Limits.{slot_limit, byte_limit, valid_value}
 use Rattle.record.specs.Change.{Change, between}
 use Rattle.record.proofs.ChangeLaws.{unpacked}
-use Rattle.undo.specs.Undo.{parsed, broken, read_changes, found, none, all_valid}
+use Rattle.undo.specs.Undo.{parsed, broken, read_changes, found, all_valid}
 use Rattle.undo.proofs.ReadLaws.{filled}
 use Rattle.runs.specs.Runs.{read_olds, read_runs}
 use Rattle.runs.specs.Two.{read_two, shaped_two}

@@ -1,6 +1,4 @@
 -- Answers.antt - convert: what measuring said, and then the writing.
-use Rattle.std.proofs.Common.{◌≡◌, ap}
-use Rattle.forms.specs.declared.Unfit.TheVariants.{NotShaped, TooShort}
 use Rattle.forms.proofs.ConvertLaws.{promise_when_unfit, promise_when_fits}
 use Rattle.forms.proofs.convert.Goals as goal
 

@@ -1,6 +1,5 @@
 -- Answers.antt - convert_record: the record that was read fits into out in the other form, and stands there.
 use Rattle.std.proofs.Common.{arith}
-use Rattle.numbers.specs.Number.{back}
 use Rattle.forms.proofs.ConvertLaws.{other_fits}
 use Rattle.forms.proofs.convert_record.Goals as goal
 

@@ -1,5 +1,5 @@
 -- Answers.antt - measure: no record read yet; one converted, or none there; the space that is left at the end, or too little.
-use Rattle.std.proofs.Common.{◌≡◌, ◌+◌, ◌∷◌, [], length, zero-add, arith}
+use Rattle.std.proofs.Common.{◌≡◌, ◌∷◌, [], length, zero-add, arith}
 use Rattle.std.proofs.lemmas.Result.{err_from_is_err_and}
 use Rattle.forms.specs.declared.Unfit.TheVariants.{NotShaped, TooShort}
 use Rattle.forms.specs.Forms.{other, journal_in}

@@ -1,8 +1,6 @@
 -- Answers.antt - put_changes: one place written, and then its old value.
-use Rattle.std.proofs.Common.{◌≡◌, ◌+◌, ◌-◌, ◌/◌, ◌%◌, ◌^◌, List, ◌++◌, ℕ, get_or, take, drop, refl, arith}
-use Rattle.numbers.specs.Number.{number_bytes}
-use Rattle.record.specs.Change.{between, changes_bytes}
-use Rattle.runs.proofs.PutLaws.{Left, left_room, left_step}
+use Rattle.std.proofs.Common.{refl, arith}
+use Rattle.runs.proofs.PutLaws.{left_room, left_step}
 use Rattle.forms.proofs.RecordLaws.{changes_rest}
 use Rattle.forms.proofs.put_changes.Goals as goal
 

@@ -1,8 +1,7 @@
 -- Answers.antt - put_in: the four parts, one after the other.
-use Rattle.std.proofs.Common.{◌+◌, ◌≤◌, List, ◌++◌, ℕ, length, arith}
+use Rattle.std.proofs.Common.{◌≤◌, List, ℕ, length, arith}
 use Rattle.numbers.specs.Number.{number_bytes}
 use Rattle.record.specs.Change.{Change, between, changes, changes_bytes}
-use Rattle.runs.specs.Answers.{BytesPut}
 use Rattle.runs.proofs.PutLaws.{FourFit, room_1, room_2, room_3, room_4, all_put}
 use Rattle.forms.specs.declared.Form.{Form}
 use Rattle.forms.specs.Forms.{record_in}

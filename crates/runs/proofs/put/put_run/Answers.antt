@@ -1,5 +1,5 @@
 -- Answers.antt - put_run: the old bytes, the first address and the length, one after the other.
-use Rattle.std.proofs.Common.{◌+◌, ◌-◌, ◌/◌, ◌^◌, ◌≤◌, List, [], ◌++◌, ℕ, length, get_or}
+use Rattle.std.proofs.Common.{◌-◌, ◌/◌, ◌^◌, [], get_or}
 use Rattle.numbers.specs.Number.{number_bytes}
 use Rattle.record.specs.Change.{between}
 use Rattle.runs.specs.Runs.{numbers_bytes}
