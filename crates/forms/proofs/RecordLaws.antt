@@ -2,27 +2,26 @@
 -- Speaks of: record_in of specs/Forms.antt, specs/Answers.antt.  Assumes nothing.  Source: [K8].
 use Prim.Native.Nat.{ℕ, ◌+◌, ◌-◌, ◌/◌, ◌%◌, ◌^◌, ◌≤◌, ◌<◌}
 use mathlib.Core.Path.{◌≡◌, ap, ◌∙◌}
-use mathlib.Core.List.{List, ◌++◌, append_assoc}
+use mathlib.Core.List.{List, ◌++◌, append_assoc, map}
 use lib.ListN.{length, get_or, take, drop}
 use Rattle.numbers.specs.Number.{number_bytes}
-use Rattle.record.specs.Change.{Change, changes_bytes, between, record_of}
+use Rattle.record.specs.Change.{Change, unpack, changes_bytes, record_of}
 use Rattle.record.specs.declared.Put.{Put}
 use Rattle.runs.specs.Two.{record_two}
 use Rattle.runs.specs.Answers.{PartPut}
-use Rattle.runs.proofs.PutLaws.{between_part}
+use Rattle.runs.proofs.PutLaws.{log_rest}
 use Rattle.forms.specs.declared.Form.{Form}
 use Rattle.forms.specs.declared.Form.TheVariants.{One, Two}
 use Rattle.forms.specs.Forms.{record_in}
 use Rattle.forms.specs.Answers.{part_bytes, part_count}
 
 -- ---- the changes that are left
-pub changes_rest : (log : List ℕ) (i n k : ℕ) → n ≤ length log → k < n - i
-    → changes_bytes (between (i + k) n log) ≡ number_bytes (get_or (take (n - i) (drop i log)) k 0 / 2 ^ 32)
-    ++ (number_bytes (get_or (take (n - i) (drop i log)) k 0 % 2 ^ 32) ++ changes_bytes (between (i + (k + 1)) n log))
-changes_rest log i n k l h =
-    let e = get_or (take (n - i) (drop i log)) k 0 in
-    ap changes_bytes (between_part log i n k l h)
-    ∙ append_assoc (number_bytes (e / 2 ^ 32)) (number_bytes (e % 2 ^ 32)) (changes_bytes (between (i + (k + 1)) n log))
+pub changes_rest : (log : List ℕ) (k : ℕ) → k < length log
+    → changes_bytes (map unpack (drop k log)) ≡ number_bytes (get_or log k 0 / 2 ^ 32)
+    ++ (number_bytes (get_or log k 0 % 2 ^ 32) ++ changes_bytes (map unpack (drop (k + 1) log)))
+changes_rest log k h =
+    ap changes_bytes (log_rest log k h)
+    ∙ append_assoc (number_bytes (get_or log k 0 / 2 ^ 32)) (number_bytes (get_or log k 0 % 2 ^ 32)) (changes_bytes (map unpack (drop (k + 1) log)))
 
 -- ---- a record of either form: the slots, the memory's part, the two counts
 pub parts_of_record : (form : Form) (ss bs : List Change)

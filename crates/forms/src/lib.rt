@@ -3,10 +3,10 @@
 // Uses: runs, oldest, undo, record, numbers, codes.  Source: [K8].
 #![tactic(auto)]
 
-ghost use Rattle.std.specs.Prelude.{◌≡◌, ◌+◌, ◌≤◌, ◌<◌, length, take};
+ghost use Rattle.std.specs.Prelude.{◌≡◌, ◌+◌, ◌≤◌, ◌<◌, map, length, take};
 ghost use Rattle.numbers.specs.Number.{back, written};
 ghost use Rattle.record.specs.Limits.{slot_limit, byte_limit, longest_record_two};
-ghost use Rattle.record.specs.Change.{between, changes, changes_bytes};
+ghost use Rattle.record.specs.Change.{unpack, changes_bytes};
 ghost use Rattle.runs.specs.Answers.{LoggedIs, BytesPut, PartPut};
 ghost use Rattle.forms.specs.declared.Form.TheVariants.{One, Two};
 ghost use Rattle.forms.specs.Forms.{other, record_in, read_in, convert};
@@ -113,49 +113,41 @@ pub fn read_in(
     }
 }
 
-// Writes the changes of a log's entries from i up to n.
-fn put_changes(out: &mut [u8], at: usize, log: &[u64], i: usize, n: usize) -> Put
-    requires { (i ≤ n) × (n ≤ length log.now) × (n ≤ byte_limit) × (at + length (changes_bytes (between i n log.now)) ≤ length out.old) }
-    ensures { PartPut out.old at (changes_bytes (between i n log.now)) (length (between i n log.now)) out.new result }
+// Writes the changes that a log holds.
+fn put_changes(out: &mut [u8], at: usize, log: &[u64]) -> Put
+    requires { (length log.now ≤ byte_limit) × (at + length (changes_bytes (map unpack log.now)) ≤ length out.old) }
+    ensures { PartPut out.old at (changes_bytes (map unpack log.now)) (length (map unpack log.now)) out.new result }
 {
     let mut p = at;
-    for e in &log[i..n] {
+    for e in log {
         p = put_number(out, p, (*e / 4294967296) as u32);
         p = put_number(out, p, (*e % 4294967296) as u32);
     }
     Put {
         at: p,
-        count: (n - i) as u32,
+        count: log.len() as u32,
     }
 }
 
-// Writes the part of a record that has the memory's changes: those of a log's entries from i up to n.
-fn put_part(form: Form, out: &mut [u8], at: usize, log: &[u64], i: usize, n: usize) -> Put
-    requires { (i ≤ n) × (n ≤ length log.now) × (n ≤ byte_limit) × (at + length (part_bytes form (between i n log.now)) ≤ length out.old) }
-    ensures { PartPut out.old at (part_bytes form (between i n log.now)) (part_count form (between i n log.now)) out.new result }
+// Writes the part of a record that has the memory's changes: those that a log holds.
+fn put_part(form: Form, out: &mut [u8], at: usize, log: &[u64]) -> Put
+    requires { (length log.now ≤ byte_limit) × (at + length (part_bytes form (map unpack log.now)) ≤ length out.old) }
+    ensures { PartPut out.old at (part_bytes form (map unpack log.now)) (part_count form (map unpack log.now)) out.new result }
 {
     match form {
-        Form::One => put_changes(out, at, log, i, n),
-        Form::Two => put_runs(out, at, log, i, n),
+        Form::One => put_changes(out, at, log),
+        Form::Two => put_runs(out, at, log, 0, log.len()),
     }
 }
 
-// Writes a record at the start of out: ns slots, and the bytes of the entries from i up to n.
-fn put_in(
-    form: Form,
-    out: &mut [u8],
-    slots: &[u64],
-    ns: usize,
-    bytes: &[u64],
-    i: usize,
-    n: usize,
-) -> usize
-    requires ns_in_bounds { (ns ≤ length slots.now) × (ns ≤ slot_limit) × (i ≤ n) × (n ≤ length bytes.now) × (n ≤ byte_limit) }
-    requires bytes_in_bounds { length (record_in form (record { slots = changes slots.now ns; bytes = between i n bytes.now })) ≤ length out.old }
-    ensures { BytesPut out.old 0 (record_in form (record { slots = changes slots.now ns; bytes = between i n bytes.now })) out.new result }
+// Writes a record at the start of out: the slots' changes and the memory's, as two logs hold them.
+fn put_in(form: Form, out: &mut [u8], slots: &[u64], bytes: &[u64]) -> usize
+    requires few { (length slots.now ≤ slot_limit) × (length bytes.now ≤ byte_limit) }
+    requires room { length (record_in form (record { slots = map unpack slots.now; bytes = map unpack bytes.now })) ≤ length out.old }
+    ensures { BytesPut out.old 0 (record_in form (record { slots = map unpack slots.now; bytes = map unpack bytes.now })) out.new result }
 {
-    let a = put_changes(out, 0, slots, 0, ns);
-    let b = put_part(form, out, a.at, bytes, i, n);
+    let a = put_changes(out, 0, slots);
+    let b = put_part(form, out, a.at, bytes);
     let p = put_number(out, b.at, a.count);
     put_number(out, p, b.count)
 }
@@ -168,7 +160,7 @@ fn convert_record(form: Form, journal: &[u8], mark: usize, out: &mut [u8]) -> Op
     let mut s = [0u64; SLOT_LIMIT];
     let mut b = [0u64; BYTE_LIMIT];
     let r = read_in(form, journal, mark, &mut s, &mut b)?;
-    let length = put_in(other(form), out, &s, r.slots, &b, r.from, r.to);
+    let length = put_in(other(form), out, &s[..r.slots], &b[r.from..r.to]);
     Some(Converted {
         length,
         start: r.start,

@@ -1,14 +1,14 @@
 -- Answers.antt - what the answers of the code say, in terms of Runs and Two.
 -- Met by: src/read.rt, src/put.rt.
 -- Uses: undo, record, numbers, codes.  Source: [ours].
-use Rattle.std.specs.Prelude.{ℕ, suc, ◌+◌, ◌/◌, ◌^◌, ◌≤◌, ◌<◌, ◌≡◌, Option, Some, None, List, [], ◌∷◌, map, length, get_or}
+use Rattle.std.specs.Prelude.{ℕ, suc, ◌+◌, ◌/◌, ◌^◌, ◌≤◌, ◌<◌, ◌≡◌, Option, Some, None, List, [], Bool, map, length, eqb}
 use Rattle.codes.specs.Codes.{Addresses}
 use Rattle.numbers.specs.Number.{back, written}
 use Rattle.record.specs.Limits.{slot_limit, byte_limit}
 use Rattle.record.specs.Change.{Change, between, changes}
 use Rattle.record.specs.declared.Put.{Put}
 use Rattle.undo.specs.Undo.{parsed, broken, Record, found, none}
-use Rattle.runs.specs.Runs.{runs, read_olds, read_runs}
+use Rattle.runs.specs.Runs.{read_olds, read_runs}
 use Rattle.runs.specs.declared.OneRun.{OneRun}
 use Rattle.runs.specs.declared.AllRuns.{AllRuns}
 use Rattle.runs.specs.declared.Logged.{Logged}
@@ -61,11 +61,9 @@ LoggedIs w j mark slots bytes None = w ≡ none
 abbrev pub olds : List Change → List ℕ
 olds = map (λ c. c.old)
 
--- The first run of a log's entries from i up to n ends before entry k. [ours]
-pub record RunEnd (log : List ℕ) (i n k : ℕ) : Type 0 where
-  pub some : i < k
-  pub inside : k ≤ n
-  pub run : runs (between i n log) ≡ record { first = get_or log i 0 / 2 ^ 32; olds = olds (between i k log) } ∷ runs (between k n log)
+-- Whether an entry y of a log stands at the address after that of an entry x. [K8]
+abbrev pub follows : ℕ → ℕ → Bool
+follows x y = eqb (y / 2 ^ 32) (x / 2 ^ 32 + 1)
 
 -- These bytes were written at a place, and next is the place after them. [ours]
 pub record BytesPut (out₀ : List ℕ) (at : ℕ) (bs : List ℕ) (out : List ℕ) (next : ℕ) : Type 0 where
