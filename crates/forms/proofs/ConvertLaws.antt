@@ -1,6 +1,6 @@
 -- ConvertLaws.antt - a whole journal in the code: one law for each turn or return.
 -- Speaks of: ConvertedIs, SpaceIs and MeasuredIs of specs/Answers.antt, convert of specs/Forms.antt.  Assumes nothing.  Source: [K8].
-use Prim.Native.Nat.{ℕ, ◌+◌, ◌-◌, ◌≤◌, ◌<◌}
+use Prim.Native.Nat.{ℕ, zero, suc, ◌+◌, ◌-◌, ◌≤◌, ◌<◌}
 use mathlib.Core.Path.{◌≡◌, refl, sym, ap, ◌∙◌}
 use mathlib.Core.List.{List, [], ◌∷◌, ◌++◌, append_assoc}
 use native.Mathlib.Nat.{zero-add}
@@ -133,6 +133,12 @@ torn_not rs e = absurd (let x : ◌≡◌ {A = ℕ} 0 1 = cc in omega arith)
 
 pub never_torn : {A : Type 0} (form : Form) (j : List ℕ) (rs : List Row) → rows_in form j ≡ rows rs → rows_in form j ≡ torn → A
 never_torn form j rs e f = torn_not rs (sym f ∙ e)
+
+-- where a journal of records has no record more, all were read
+pub passed_all : (form : Form) (j : List ℕ) (e : ℕ) (acc rs : List Row) → Passed form j e acc → rows_in form j ≡ rows rs
+    → read_in form (back j e) ≡ none → e ≡ 0
+passed_all form j zero acc rs p q n = refl
+passed_all form j (suc e) acc rs p q n = never_torn form j rs q (passed_torn form j (suc e) acc (omega arith) p n)
 
 rows_same : (a b : List Row) → rows a ≡ rows b → a ≡ b
 rows_same a b e = cc

@@ -1,9 +1,9 @@
 -- RecordLaws.antt - one record in the code: the changes that are left to write; a record of either form as four parts.
 -- Speaks of: record_in of specs/Forms.antt, specs/Answers.antt.  Assumes nothing.  Source: [K8].
-use Prim.Native.Nat.{ℕ, ◌+◌, ◌-◌, ◌/◌, ◌%◌, ◌^◌, ◌≤◌, ◌<◌}
+use Prim.Native.Nat.{ℕ, ◌+◌, ◌/◌, ◌%◌, ◌^◌, ◌≤◌, ◌<◌}
 use mathlib.Core.Path.{◌≡◌, ap, ◌∙◌}
 use mathlib.Core.List.{List, ◌++◌, append_assoc, map}
-use lib.ListN.{length, get_or, take, drop}
+use lib.ListN.{length, get_or, drop}
 use Rattle.numbers.specs.Number.{number_bytes}
 use Rattle.record.specs.Change.{Change, unpack, changes_bytes, record_of}
 use Rattle.record.specs.declared.Put.{Put}

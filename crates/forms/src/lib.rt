@@ -184,7 +184,7 @@ fn measure(form: Form, journal: &[u8], space: usize) -> Result<usize, Unfit>
     let mut out = [0u8; LONGEST_RECORD_TWO];
     let mut e = journal.len();
     let mut left = Some(space);
-    // A while: each record tells where the one before it ends.
+    // Stays a while: where the record before ends is known once this one is read.
     while 0 < e {
         let r = convert_record(form, journal, e, &mut out).ok_or(Unfit::NotShaped)?;
         left = less(left, r.length);
@@ -201,11 +201,7 @@ fn write_back(form: Form, journal: &[u8], target: &mut [u8], total: usize)
     let mut out = [0u8; LONGEST_RECORD_TWO];
     let mut e = journal.len();
     let mut p = total;
-    // A while: each record tells where the one before it ends.
-    while 0 < e {
-        let Some(r) = convert_record(form, journal, e, &mut out) else {
-            return;
-        };
+    while let Some(r) = convert_record(form, journal, e, &mut out) {
         p -= r.length;
         target[p..p + r.length].copy_from_slice(&out[..r.length]);
         e = r.start;
