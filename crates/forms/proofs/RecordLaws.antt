@@ -1,14 +1,12 @@
 -- RecordLaws.antt - one record in the code: the changes that are left to write; a record of either form as four parts.
 -- Speaks of: record_in of specs/Forms.antt, specs/Answers.antt.  Assumes nothing.  Source: [K8].
-use Prim.Native.Nat.{ℕ, ◌+◌, ◌/◌, ◌%◌, ◌^◌, ◌≤◌, ◌<◌}
+use Prim.Native.Nat.{ℕ, ◌+◌, ◌/◌, ◌%◌, ◌^◌, ◌<◌}
 use mathlib.Core.Path.{◌≡◌, ap, ◌∙◌}
 use mathlib.Core.List.{List, ◌++◌, append_assoc, map}
 use lib.ListN.{length, get_or, drop}
 use Rattle.numbers.specs.Number.{number_bytes}
 use Rattle.record.specs.Change.{Change, unpack, changes_bytes, record_of}
-use Rattle.record.specs.declared.Put.{Put}
 use Rattle.runs.specs.Two.{record_two}
-use Rattle.runs.specs.Answers.{PartPut}
 use Rattle.runs.proofs.PutLaws.{log_rest}
 use Rattle.forms.specs.declared.Form.{Form}
 use Rattle.forms.specs.declared.Form.TheVariants.{One, Two}
@@ -30,12 +28,3 @@ pub parts_of_record : (form : Form) (ss bs : List Change)
 unfolding record_of record_two
 parts_of_record One ss bs = simp append_assoc
 parts_of_record Two ss bs = simp append_assoc
-
--- ---- by the form
-module _ (form to : Form) (e : form ≡ to) (bs : List Change) where
-  pub part_fits : (room : ℕ) (at : ℕ) → at + length (part_bytes form bs) ≤ room → at + length (part_bytes to bs) ≤ room
-  part_fits room at h = rw e at h
-
-  pub part_put : (out₀ : List ℕ) (at : ℕ) (out : List ℕ) (r : Put) → PartPut out₀ at (part_bytes to bs) (part_count to bs) out r
-      → PartPut out₀ at (part_bytes form bs) (part_count form bs) out r
-  part_put out₀ at out r w = rw e w

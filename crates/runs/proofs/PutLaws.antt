@@ -1,5 +1,5 @@
--- PutLaws.antt - the laws of writing runs: what is left to write, written now, gives what was asked; where a run ends.
--- * left_start, left_put, left_end: the loops'.   * room_1 to room_4, all_put: four parts in a row.   * run_ends, run_ends_all.
+-- PutLaws.antt - the laws of writing runs: what is left to write, written now, gives what was asked; the first run of a log.
+-- * left_start, left_put, left_end: the loops'.   * room_1 to room_4, all_put: four parts in a row.   * run_of_prefix.
 -- Speaks of: specs/Answers.antt.  Assumes nothing.  Source: [K8].
 use Prim.Native.Nat.{ℕ, suc, ◌+◌, ◌/◌, ◌%◌, ◌^◌, ◌≤◌, ◌<◌}
 use mathlib.Core.Path.{◌≡◌, refl, sym, ap, ◌∙◌}
