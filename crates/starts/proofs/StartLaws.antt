@@ -13,10 +13,6 @@ use Rattle.oldest.specs.Room.{Row, row_bytes, rows_bytes, dropped}
 use Rattle.starts.specs.Starts.{starts_of, Indexed}
 
 -- ---- the starts of records
-pub length_starts : (at : ℕ) (rs : List Row) → length (starts_of at rs) ≡ length rs
-length_starts at [] = refl
-length_starts at (r ∷ rs) = ap suc (length_starts (at + length (row_bytes r)) rs)
-
 pub start_at : (at : ℕ) (rs : List Row) (k : ℕ) → k < length rs → get_or (starts_of at rs) k 0 ≡ at + length (rows_bytes (take k rs))
 start_at at [] k h = absurd (omega arith)
 start_at at (r ∷ rs) zero h = omega arith
