@@ -7,14 +7,14 @@ drop_oldest-turned_by-requires c =
     let m = c.requires.mark_in_bounds in
     let s = c.requires.mark_len_bound in
     let f = c.requires.i_in_bounds in
-    (m.1, m.2, near_cut c.args.len c.args.b c.args.h c.args.journal.now c.args.mark m.1 m.2 m.0 s.0 s.1 m.3 c.args.need s.2 c.args.near.now c.args.i c.args.base f.0 f.3 c.args.k f.2 f.1, m.0)
+    (m.1, m.2, near_cut _ _ _ _ _ m.1 m.2 m.0 s.0 s.1 m.3 _ s.2 _ _ _ f.0 f.3 _ f.2 f.1, m.0)
 
 pub overflow_sub-result : goal.overflow_sub-result
 overflow_sub-result c =
     let m = c.requires.mark_in_bounds in
     let s = c.requires.mark_len_bound in
     let f = c.requires.i_in_bounds in
-    near_cut c.args.len c.args.b c.args.h c.args.journal.now c.args.mark m.1 m.2 m.0 s.0 s.1 m.3 c.args.need s.2 c.args.near.now c.args.i c.args.base f.0 f.3 c.args.k f.2 f.1
+    near_cut _ _ _ _ _ m.1 m.2 m.0 s.0 s.1 m.3 _ s.2 _ _ _ f.0 f.3 _ f.2 f.1
 
 pub returns : goal.returns
 returns c =
@@ -22,4 +22,4 @@ returns c =
     let s = c.requires.mark_len_bound in
     let f = c.requires.i_in_bounds in
     let d = c.drop_oldest-turned_by in
-    near_done c.args.len c.args.b c.args.h c.args.journal.now c.args.mark m.1 m.2 m.0 s.0 s.1 m.3 c.args.need s.2 c.args.near.now c.args.i c.args.base f.0 f.3 c.args.k f.2 f.1 d.new.journal d.result d.ensures
+    near_done _ _ _ _ _ m.1 m.2 m.0 s.0 s.1 m.3 _ s.2 _ _ _ f.0 f.3 _ f.2 f.1 _ _ d.ensures

@@ -1,5 +1,4 @@
--- The library's make_room on the journal turned back.
-use lib.ListN.{length}
+-- make_room of oldest on the journal turned back.
 use Rattle.held.proofs.HeldLaws.{walked_low, walked_done, room_of_turned}
 use Rattle.held.proofs.drop_walked.Goals as goal
 
@@ -9,8 +8,8 @@ overflow_sub-result c =
     let m = c.requires.mark_in_bounds in
     let s = c.requires.mark_len_bound in
     let r = c.make_room-room in
-    let room = room_of_turned a.len a.b a.h a.mark a.journal.now c.turn_back.new.journal r.new.journal r.result c.turn_back.ensures r.ensures in
-    walked_low a.len a.b a.h a.journal.now a.mark m.1 m.2 m.0 s.0 s.1 m.3 a.near.now (length a.near.now) (length a.near.now) a.base s.2 r.new.journal r.result room
+    let room = room_of_turned _ a.b a.h _ a.journal.now _ _ _ c.turn_back.ensures r.ensures in
+    walked_low _ _ _ _ _ m.1 m.2 m.0 s.0 s.1 m.3 _ _ _ _ s.2 _ _ room
 
 pub returns : goal.returns
 returns c =
@@ -18,5 +17,5 @@ returns c =
     let m = c.requires.mark_in_bounds in
     let s = c.requires.mark_len_bound in
     let r = c.make_room-room in
-    let room = room_of_turned a.len a.b a.h a.mark a.journal.now c.turn_back.new.journal r.new.journal r.result c.turn_back.ensures r.ensures in
-    walked_done a.len a.b a.h a.journal.now a.mark m.1 m.2 m.0 s.0 s.1 m.3 a.near.now (length a.near.now) (length a.near.now) a.base s.2 r.new.journal r.result room a.near.now
+    let room = room_of_turned _ a.b a.h _ a.journal.now _ _ _ c.turn_back.ensures r.ensures in
+    walked_done _ _ _ _ _ m.1 m.2 m.0 s.0 s.1 m.3 _ _ _ _ s.2 _ _ room _
