@@ -17,7 +17,7 @@ use Rattle.numbers.proofs.WrittenLaws.{take_written}
 use Rattle.record.specs.Limits.{longest_record}
 use Rattle.undo.proofs.ShapeLaws.{record_not_empty}
 use Rattle.turned.specs.Turned.{turned}
-use Rattle.turned.proofs.PartLaws.{slice_as_take}
+use Rattle.std.proofs.lemmas.Slice.{between_is}
 use Rattle.turned.proofs.TurnLaws.{turned_none, length_turned}
 use Rattle.oldest.specs.Room.{Row, row_bytes, rows_bytes, rows, rows_of, dropped, RoomCall, without, missing, make_room, RoomIs}
 use Rattle.oldest.specs.declared.Room.{Room}
@@ -200,7 +200,7 @@ module _ (len b h : ℕ) (p : List ℕ) (mark : ℕ) (low : b ≤ h) (top : h �
               ap (λ (m : ℕ). drop m (take n near)) (sym place)
               ∙ sym (drop-drop d i (take n near))
               ∙ ap (drop d) x.known
-              ∙ slice_as_take d (n - i) (starts_of base x.all)
+              ∙ sym (between_is (starts_of base x.all) d (n - i))
               ∙ ap (take (n - i - d)) (drop_starts base x.all d ∙ ap (λ (m : ℕ). starts_of m (drop d x.all)) (sym sum))
               ∙ ap (λ (m : ℕ). take m (starts_of (get_or near at 0) (drop d x.all))) less;
         }
@@ -220,11 +220,5 @@ module _ (len b h : ℕ) (p : List ℕ) (mark : ℕ) (low : b ≤ h) (top : h �
         }
 
 -- ---- by what the calls answered
-pub cut_off_plain : (b h c mark : ℕ) (p l₁ l₂ : List ℕ) → l₁ ≡ turned b h p → l₂ ≡ written l₁ 0 (slice c mark l₁) → CutOff (turned b h p) c mark h l₂ 0
-cut_off_plain b h c mark p l₁ l₂ e f = record { journal = turned_none h l₂ ∙ f ∙ rw e; turn = record { low = omega arith; plain = λ l. refl } }
-
-pub cut_off_turned : (b b' h c mark : ℕ) (p l : List ℕ) → b' ≤ h → h ≤ mark - c → turned b' h l ≡ written (turned b h p) 0 (slice c mark (turned b h p)) → CutOff (turned b h p) c mark h l b'
-cut_off_turned b b' h c mark p l low above e = record { journal = e; turn = record { low = low; plain = λ k. absurd (omega arith) } }
-
 pub room_of_turned : (len b h mark : ℕ) (p l p' : List ℕ) (a : Room) → l ≡ turned b h p → RoomIs len l mark p' a → RoomIs len (turned b h p) mark p' a
 room_of_turned len b h mark p l p' a e r = subst (λ (j : List ℕ). RoomIs len j mark p' a) e r

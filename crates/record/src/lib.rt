@@ -39,13 +39,11 @@ fn differing(old: &[u32], new: &[u32]) -> u32
 {
     let mut m: u32 = 0;
     let mut w: u32 = 2;
-    let mut i: usize = 0;
-    while i < SLOT_LIMIT {
-        if old[i] != new[i] {
-            m = m | w;
+    for (o, n) in old.iter().zip(new) {
+        if *o != *n {
+            m |= w;
         }
-        w = w * 2;
-        i += 1;
+        w *= 2;
     }
     m
 }
@@ -59,12 +57,13 @@ fn put_slots(journal: &mut [u8], at: usize, old: &[u32; SLOT_LIMIT], new: &[u32;
     let mut m = differing(old, new);
     let mut p = at;
     let mut n: u32 = 0;
+    // The library has no way to go over the set bits of a number.
     while m != 0 {
         let z = u32::trailing_zeros(m);
         let k = z - 1;
         p = put_small(journal, p, k);
         p = put_number(journal, p, old[k as usize]);
-        m = m & (m - 1);
+        m &= m - 1;
         n += 1;
     }
     Put { at: p, count: n }
@@ -79,16 +78,13 @@ fn put_bytes(journal: &mut [u8], at: usize, memory: &[u8], log: &[u64], n: usize
 {
     let mut next = at;
     let mut count: u32 = 0;
-    let mut i = 0;
-    while i < n {
-        let e = log[i];
-        let a = (e / 4294967296) as usize;
-        let old = (e % 4294967296) as u32;
-        if old != (memory[a] as u32) {
-            next = put_change(journal, next, (e / 4294967296) as u32, old);
+    for e in &log[..n] {
+        let place = (*e / 4294967296) as u32;
+        let old = (*e % 4294967296) as u32;
+        if old != (memory[place as usize] as u32) {
+            next = put_change(journal, next, place, old);
             count += 1;
         }
-        i += 1;
     }
     Put { at: next, count }
 }

@@ -24,14 +24,13 @@ pub fn valid_status(v: u32) -> bool
 }
 
 // Whether the slot at a place can hold v.
+#[tactic(auto, unfolding(crate::specs::Limits::valid_value))]
 pub fn valid_value(place: u32, v: u32) -> bool
     ensures { result ≡ valid_value place v }
 {
-    if place == STATUS_SLOT {
-        return valid_status(v);
+    match place {
+        STATUS_SLOT => valid_status(v),
+        MODE_SLOT => v < codes::MODES,
+        _ => true,
     }
-    if place == MODE_SLOT {
-        return v < codes::MODES;
-    }
-    true
 }

@@ -1,23 +1,20 @@
 -- NearLaws.antt - the list of the oldest starts, noted anew from a post down to place 0: one law for each turn or return of the code.
--- * moving_start, moving_more, moving_end: the loop of keep_oldest.   * filling_start, filling_more, fill_done: the loop of fill_near.
+-- * filling_start, filling_more, fill_done: the loop of fill_near.
 -- Speaks of: Indexed, FillFrom and FilledIs of specs/Starts.antt.
 -- Assumes nothing.  Source: [ours].
 use Prim.Native.Nat.{ℕ, suc, ◌+◌, ◌-◌, ◌^◌, ◌≤◌, ◌<◌}
 use mathlib.Core.Path.{◌≡◌, refl, sym, ap, ◌∙◌, subst}
-use mathlib.Core.Bool.{Bool, true, false}
 use mathlib.Core.List.{List, [], ◌∷◌, ◌++◌, append_assoc, append-nil, reverse, reverse-append}
 use native.Mathlib.Omega.{arith}
-use lib.ListN.{length, get_or, set, take, drop, length-append, length-drop, length-set, take-append-drop}
-use lib.Seq.{slice, slice-cons, slice_empty, get_or-set_same, take-set-lt, drop-set-lt, get_or-set_other, get_or-take, get_or-drop, take_at, take-take, length-take-le, length-slice, ext_get_or}
-use lib.Dec.{eqb}
-use borrow.Author.Tests.{eqb-true, eqb-false}
+use lib.ListN.{length, set, take, drop, length-append, length-drop, length-set, take-append-drop}
+use lib.Seq.{slice, slice-cons, slice_empty, get_or-set_same, take-set-lt, drop-set-lt, take_at, take-take, length-take-le}
 use Rattle.numbers.specs.Number.{back}
 use Rattle.undo.proofs.ReadLaws.{length_back}
 use Rattle.undo.proofs.ShapeLaws.{record_not_empty}
-use Rattle.turned.proofs.PartLaws.{slice_as_take}
+use Rattle.std.proofs.lemmas.Slice.{between_is}
 use Rattle.oldest.specs.Room.{Row, row_bytes, rows_bytes}
 use Rattle.oldest.proofs.RowLaws.{AllGood, rows_bytes_append, rows_count, back_as_reverse}
-use Rattle.starts.specs.Starts.{starts_of, IsStart, before_record, Indexed, Known, IsEntry, HalfIs, BelowIs, FillFrom, FilledIs}
+use Rattle.starts.specs.Starts.{starts_of, IsStart, before_record, Indexed, Known, IsEntry, BelowIs, FillFrom, FilledIs}
 use Rattle.starts.proofs.SkipLaws.{skip_record, row_two}
 
 -- ---- the last of some records
@@ -110,79 +107,6 @@ module _ (len : ℕ) (v : List ℕ) (mark base post : ℕ) (inside : mark ≤ le
       first [] h x e = absurd (omega arith)
       first (r ∷ rs) h x e = entry_alone n post near (starts_of (post + length (row_bytes r)) rs) some fits ∙ ap (λ (m : ℕ). take (n - (n - 1)) (starts_of m (r ∷ rs))) (sym e)
 
--- ---- the entry below
--- its first k were moved from place from on, and what stands below that is not touched
-pub record Moving (near : List ℕ) (half from k : ℕ) (near' : List ℕ) : Type 0 where
-  pub sum : from + half ≡ length near
-  pub twice : half ≤ from
-  pub size : length near' ≡ length near
-  pub few : k ≤ half
-  pub same : (q : ℕ) → q < from → get_or near' q 0 ≡ get_or near q 0
-  pub moved : (q : ℕ) → q < k → get_or near' (from + q) 0 ≡ get_or near q 0
-
-module _ (near : List ℕ) (half from : ℕ) where
-  pub moving_start : from + half ≡ length near → half ≤ from → Moving near half from 0 near
-  moving_start sum twice = record { sum = sum; twice = twice; size = refl; few = omega arith; same = λ q h. refl; moved = λ q h. absurd (omega arith) }
-
-  pub moving_more : (k : ℕ) (near' : List ℕ) → k < half → Moving near half from k near' → Moving near half from (k + 1) (set near' (from + k) (get_or near' k 0))
-  moving_more k near' more w =
-      record {
-        sum = w.sum;
-        twice = w.twice;
-        size = length-set near' (from + k) (get_or near' k 0) ∙ w.size;
-        few = omega arith;
-        same = λ q h. get_or-set_other near' (from + k) q (get_or near' k 0) 0 (omega arith) ∙ w.same q h;
-        moved = λ q h. go q h (eqb q k) refl;
-      }
-    where
-      go : (q : ℕ) → q < k + 1 → (t : Bool) → eqb q k ≡ t → get_or (set near' (from + k) (get_or near' k 0)) (from + q) 0 ≡ get_or near q 0
-      go q h true e =
-          let here = eqb-true q k e in
-          ap (λ (m : ℕ). get_or (set near' (from + k) (get_or near' k 0)) (from + m) 0) here
-          ∙ get_or-set_same near' (from + k) (get_or near' k 0) 0 (omega (arith, w.size, w.sum))
-          ∙ w.same k (omega (arith, w.twice))
-          ∙ ap (λ (m : ℕ). get_or near m 0) (sym here)
-      go q h false e =
-          let other = eqb-false q k e in
-          get_or-set_other near' (from + k) (from + q) (get_or near' k 0) 0 (omega (arith, other)) ∙ w.moved q (omega (arith, other))
-
-  pub moving_end : (k : ℕ) (near' : List ℕ) → half ≤ k → 0 < from → Moving near half from k near' → HalfIs near near' from
-  moving_end k near' all some w =
-      let n = length near in
-      let sum = w.sum in
-      record {
-        some = some;
-        high = omega arith;
-        kept =
-            ext_get_or 0 (slice from n near') (take (n - from) near)
-            (omega (arith, length-slice from n near' (omega (arith, w.size)), length-take-le (n - from) near (omega arith)))
-            (λ q h.
-            let low : q < n - from = omega (arith, h, length-slice from n near' (omega (arith, w.size))) in
-            get_or-drop from (take n near') q 0
-            ∙ get_or-take n near' (from + q) 0 (omega arith)
-            ∙ w.moved q (omega arith)
-            ∙ sym (get_or-take (n - from) near q 0 low));
-      }
-
-pub below_there : (near : List ℕ) (i : ℕ) → 0 < i → i ≤ length near → BelowIs near i near (i - 1)
-below_there near i some order =
-    let this : suc (i - 1) ≡ i = omega arith in
-    record { low = omega arith; few = omega arith; kept = ap (λ (m : ℕ). slice m (length near) near) this ∙ slice_as_take i (length near) near ∙ ap (λ (m : ℕ). take (length near - m) (drop i near)) (sym this) }
-
-pub below_half : (near : List ℕ) (i : ℕ) (near' : List ℕ) (r : ℕ) → i ≡ 0 → HalfIs near near' r → BelowIs near i near' (r - 1)
-below_half near i near' r z h =
-    let some = h.some in
-    let this : suc (r - 1) ≡ r = omega arith in
-    record {
-      low = omega (arith, h.high);
-      few = omega arith;
-      kept =
-          ap (λ (m : ℕ). slice m (length near) near') this
-          ∙ h.kept
-          ∙ ap (λ (m : ℕ). take (length near - m) near) (sym this)
-          ∙ ap (λ (m : ℕ). take (length near - suc (r - 1)) (drop m near)) (sym z);
-    }
-
 -- ---- a turn: what is left ends with a record r, and is passed
 some_left : (rs : List Row) → 0 < length (rows_bytes rs) → 0 < length rs
 some_left [] h = absurd (omega arith)
@@ -232,7 +156,7 @@ module _ (len : ℕ) (v : List ℕ) (base : ℕ) (all : List Row) (n e i : ℕ) 
         ∙ u.kept
         ∙ ap (λ (m : ℕ). take (m - suc k) (drop i near)) size
         ∙ sym (take-take (n - suc k) (n - i) (drop i near) few)
-        ∙ ap (take (n - suc k)) (sym (slice_as_take i n near) ∙ w.known)
+        ∙ ap (take (n - suc k)) (between_is near i n ∙ w.known)
         ∙ take-take (n - suc k) (n - i) (starts_of (base + e) w.seen) few
         ∙ ap (λ (m : ℕ). take (n - suc k) (starts_of m w.seen)) (sym next)
 

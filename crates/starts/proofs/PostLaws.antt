@@ -17,7 +17,7 @@ use Rattle.undo.specs.Undo.{found, none, shaped_record}
 use Rattle.oldest.specs.Room.{Row, row_bytes, rows_bytes, rows, torn, read_rows, rows_of}
 use Rattle.oldest.proofs.WayLaws.{octets_back, way_torn, way_more, way_end, length_of_record}
 use Rattle.oldest.proofs.RowLaws.{AllGood, bytes_of_rows}
-use Rattle.starts.specs.Starts.{starts_of, IsStart, Indexed, no_post, Known, NotedIs}
+use Rattle.starts.specs.Starts.{starts_of, IsStart, Indexed, no_post, NotedIs}
 
 -- ---- the way back to place e, where acc was read
 pub record Walked (len : ℕ) (j : List ℕ) (mark e : ℕ) (acc : List Row) : Type 0 where
@@ -57,14 +57,6 @@ entry_of_set P l k x q h new old = go (eqb q k) refl
         subst P (sym there) new
     go false e = subst P (sym (get_or-set_other l k q x 0 (eqb-false q k e))) old
 
--- one entry more at which nothing is noted
-pub clear_more : (posts : List ℕ) (k : ℕ) → k < length posts → ((q : ℕ) → q < k → get_or posts q 0 ≡ no_post) → (q : ℕ) → q < k + 1 → get_or (set posts k no_post) q 0 ≡ no_post
-clear_more posts k inside clear q h = go (eqb q k) refl
-  where
-    go : (t : Bool) → eqb q k ≡ t → get_or (set posts k no_post) q 0 ≡ no_post
-    go true e = ap (λ (m : ℕ). get_or (set posts k no_post) m 0) (eqb-true q k e) ∙ get_or-set_same posts k no_post 0 inside
-    go false e = let other = eqb-false q k e in get_or-set_other posts k q no_post 0 other ∙ clear q (omega (arith, other))
-
 -- ---- a list with no entry says nothing but that all records were read
 pub indexed_none : (len : ℕ) (j : List ℕ) (mark : ℕ) (index : List ℕ) (n base : ℕ) (rs : List Row) → rows_of len j mark ≡ rows rs → take mark j ≡ rows_bytes rs → AllGood len rs → Indexed len j mark index n n base
 indexed_none len j mark index n base rs read bytes good =
@@ -72,13 +64,6 @@ indexed_none len j mark index n base rs read bytes good =
   where
     take_none : (m : ℕ) → m ≡ 0 → take m (starts_of base rs) ≡ []
     take_none m e = rw e
-
-pub indexed_empty : (len : ℕ) (j : List ℕ) (mark : ℕ) (index : List ℕ) (i n base : ℕ) → Indexed len j mark index i n base → (index' : List ℕ) (m : ℕ) → Indexed len j mark index' m m base
-indexed_empty len j mark index i n base x index' m = indexed_none len j mark index' m base x.all x.read x.bytes x.good
-
-pub known_empty : (len : ℕ) (j : List ℕ) (mark : ℕ) (posts near : List ℕ) (i base : ℕ) → Known len j mark posts near i base → Known len j mark posts near (length near) base
-known_empty len j mark posts near i base x =
-    record { order = omega arith; index = indexed_empty len j mark near i (length near) base x.index near (length near); posts_ok = x.posts_ok }
 
 -- ---- noting on the way back: every entry is no_post, or where one of the records that were read starts
 pub record Noting (len : ℕ) (j : List ℕ) (mark e : ℕ) (posts : List ℕ) : Type 0 where

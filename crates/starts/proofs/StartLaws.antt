@@ -3,22 +3,16 @@
 -- Speaks of: starts_of and Indexed of specs/Starts.antt, dropped of oldest.
 -- Assumes nothing.  Source: [K5], [ours].
 use Prim.Native.Nat.{ℕ, zero, suc, ◌+◌, ◌-◌, ◌≤◌, ◌<◌}
-use mathlib.Core.Path.{◌≡◌, refl, sym, ap, ◌∙◌, subst}
-use mathlib.Core.Bool.{Bool, true, false}
+use mathlib.Core.Path.{◌≡◌, refl, sym, ap, ◌∙◌}
 use mathlib.Core.List.{List, [], ◌∷◌, ◌++◌}
 use native.Mathlib.Omega.{arith}
 use lib.ListN.{length, get_or, take, drop, length-append}
 use lib.Seq.{get_or-take, get_or-drop}
-use lib.Dec.{ltb}
-use borrow.Author.Tests.{lt-ltb, le-ltb, ltb-true, ltb-false}
+use borrow.Author.Tests.{lt-ltb, le-ltb}
 use Rattle.oldest.specs.Room.{Row, row_bytes, rows_bytes, dropped}
 use Rattle.starts.specs.Starts.{starts_of, Indexed}
 
 -- ---- the starts of records
-pub length_starts : (at : ℕ) (rs : List Row) → length (starts_of at rs) ≡ length rs
-length_starts at [] = refl
-length_starts at (r ∷ rs) = ap suc (length_starts (at + length (row_bytes r)) rs)
-
 pub start_at : (at : ℕ) (rs : List Row) (k : ℕ) → k < length rs → get_or (starts_of at rs) k 0 ≡ at + length (rows_bytes (take k rs))
 start_at at [] k h = absurd (omega arith)
 start_at at (r ∷ rs) zero h = omega arith
@@ -68,15 +62,3 @@ module _ (len : ℕ) (j : List ℕ) (mark : ℕ) (index : List ℕ) (i n base : 
       let e : i + (k - i) ≡ k = omega arith in
       let z : get_or index k 0 ≡ base + before_row (k - i) = ap (λ (m : ℕ). get_or index m 0) (sym e) ∙ entry_is (k - i) (omega arith) in
       omega arith
-
--- ---- one turn of first_kept
-pub first_more : (index : List ℕ) (base need i k : ℕ) → ((q : ℕ) → i ≤ q → q < k → get_or index q 0 - base < need) → get_or index k 0 - base < need
-    → (q : ℕ) → i ≤ q → q < k + 1 → get_or index q 0 - base < need
-first_more index base need i k before this q l h = go (ltb q k) refl
-  where
-    go : (t : Bool) → ltb q k ≡ t → get_or index q 0 - base < need
-    go true e = before q l (ltb-true q k e)
-    go false e =
-        let high = ltb-false q k e in
-        let same : k ≡ q = omega arith in
-        subst (λ (m : ℕ). get_or index m 0 - base < need) same this

@@ -1,53 +1,17 @@
--- WrapLaws.antt - a turned journal, read byte by byte; and the oldest bytes dropped over the end of its turned part.
--- * byte_above, byte_head, byte_tail: where a byte stands.   * wrapped_done: what drop_wrapped does.
+-- WrapLaws.antt - a turned journal: the oldest bytes dropped over the end of its turned part. * wrapped_done: what drop_wrapped does.
 -- Speaks of: turned of turned, written of numbers.
 -- Assumes nothing.  Source: [ours].
-use Prim.Native.Nat.{ℕ, ◌+◌, ◌-◌, ◌≤◌, ◌<◌}
+use Prim.Native.Nat.{ℕ, ◌+◌, ◌-◌, ◌≤◌}
 use mathlib.Core.Path.{◌≡◌, sym, ap, ◌∙◌}
 use mathlib.Core.List.{List, ◌++◌, append_assoc}
 use native.Mathlib.Omega.{arith}
-use lib.ListN.{length, get_or, take, drop, length-append, get_or-append}
-use lib.Seq.{slice, get_or-append-add, get_or-take, get_or-drop, drop-append-le, drop-append-add, drop_at, length-slice, length-take-le}
+use lib.ListN.{length, take, drop}
+use lib.Seq.{slice, drop-append-le, drop-append-add, drop_at, length-slice, length-take-le}
 use Rattle.numbers.specs.Number.{written}
 use Rattle.numbers.proofs.WrittenLaws.{take_written, length_written}
 use Rattle.turned.specs.Turned.{turned}
 use Rattle.turned.proofs.PartLaws.{slice_join, take_below, drop_above, slice_above, slice_below}
 use Rattle.turned.proofs.TurnLaws.{length_turned, take_turned, drop_turned_above}
-
--- ---- a byte
-module _ (b h : ℕ) (p : List ℕ) (q : ℕ) (low : b ≤ h) (top : h ≤ length p) where
-  abbrev tail : List ℕ
-  tail = slice b h p
-
-  tail_length : length tail ≡ h - b
-  tail_length = length-slice b h p top
-
-  head_length : length (take b p) ≡ b
-  head_length = length-take-le b p (omega arith)
-
-  pub byte_tail : q < h - b → get_or (turned b h p) q 0 ≡ get_or p (b + q) 0
-  byte_tail l =
-      get_or-append (tail ++ take b p) (drop h p) 0 q (omega (arith, length-append tail (take b p), tail_length))
-      ∙ get_or-append tail (take b p) 0 q (omega (arith, tail_length))
-      ∙ get_or-drop b (take h p) q 0
-      ∙ get_or-take h p (b + q) 0 (omega arith)
-
-  pub byte_head : h - b ≤ q → q < h → get_or (turned b h p) q 0 ≡ get_or p (q - (h - b)) 0
-  byte_head l m =
-      let place : length tail + (q - (h - b)) ≡ q = omega (arith, tail_length) in
-      get_or-append (tail ++ take b p) (drop h p) 0 q (omega (arith, length-append tail (take b p), tail_length, head_length))
-      ∙ ap (λ (k : ℕ). get_or (tail ++ take b p) k 0) (sym place)
-      ∙ get_or-append-add tail (take b p) (q - (h - b)) 0
-      ∙ get_or-take b p (q - (h - b)) 0 (omega arith)
-
-  pub byte_above : h ≤ q → get_or (turned b h p) q 0 ≡ get_or p q 0
-  byte_above l =
-      let place : length (tail ++ take b p) + (q - h) ≡ q = omega (arith, length-append tail (take b p), tail_length, head_length) in
-      let back_again : h + (q - h) ≡ q = omega arith in
-      ap (λ (k : ℕ). get_or (turned b h p) k 0) (sym place)
-      ∙ get_or-append-add (tail ++ take b p) (drop h p) (q - h) 0
-      ∙ get_or-drop h p (q - h) 0
-      ∙ ap (λ (k : ℕ). get_or p k 0) back_again
 
 -- ---- the oldest c bytes dropped, where the turned part has r left, fewer than c
 module _ (b h c mark : ℕ) (p : List ℕ) (low : b ≤ h) (over : h ≤ b + c) (short : c ≤ h) (above : h + c ≤ mark) (inside : mark ≤ length p) where

@@ -13,14 +13,12 @@ pub fn first_kept(near: &[usize], i: usize, base: usize, need: usize) -> usize
     requires { (i ≤ length near.now) × ((k : ℕ) → i ≤ k → k < length near.now → base ≤ get_or near.now k 0) }
     ensures { FirstIs near.now i (length near.now) base need result }
 {
-    let mut k = i;
-    while k < near.len() {
+    for k in i..near.len() {
         if need <= near[k] - base {
             return k;
         }
-        k += 1;
     }
-    k
+    near.len()
 }
 
 // Byte q of a journal that is turned by b in its first h bytes.
@@ -44,6 +42,7 @@ fn record_start(journal: &[u8], b: usize, h: usize, end: usize) -> usize
 {
     let mut s = end - 2;
     let mut left = 2 * (byte_at(journal, b, h, s) + byte_at(journal, b, h, s + 1));
+    // No for: the bytes that are read tell how far it goes.
     while 0 < left {
         if s == 0 {
             return 0;
@@ -61,11 +60,7 @@ fn keep_oldest(near: &mut [usize]) -> usize
 {
     let half = near.len() / 2;
     let from = near.len() - half;
-    let mut k = 0;
-    while k < half {
-        near[from + k] = near[k];
-        k += 1;
-    }
+    near.copy_within(..half, from);
     from
 }
 
@@ -98,6 +93,7 @@ fn fill_near(
     let mut i = near.len() - 1;
     near[i] = post;
     let mut e = post - base;
+    // No for: each record tells where the next one ends.
     while 0 < e {
         e = record_start(journal, b, h, e);
         i = entry_below(near, i);

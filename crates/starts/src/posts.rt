@@ -8,7 +8,7 @@ ghost use Rattle.starts.specs.Starts.{no_post, post_place, IsEntry, NotedIs};
 use record::limits::{BYTE_LIMIT, SLOT_LIMIT};
 use undo::shaped_record;
 
-// What an entry holds at which nothing is noted: no journal has this place.
+// What an entry holds at which nothing is noted: no journal has this place. An Option in each entry would make the table twice as long.
 pub const NO_POST: usize = 18446744073709551615;
 
 // Notes at its entry that a record starts at x.
@@ -34,11 +34,7 @@ pub fn post_after(posts: &[usize], spread: usize, x: usize) -> usize
 fn clear_posts(posts: &mut [usize])
     ensures { (k : ℕ) → k < length posts.new → get_or posts.new k 0 ≡ no_post }
 {
-    let mut k = 0;
-    while k < posts.len() {
-        posts[k] = NO_POST;
-        k += 1;
-    }
+    posts.fill(NO_POST);
 }
 
 // The way back from the mark to place 0, record by record: notes where each starts.

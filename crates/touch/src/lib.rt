@@ -12,13 +12,10 @@ fn find_place(log: &[u64], n: usize, a: u32) -> usize
     requires { (n ≤ length log.now) × Ascending 0 (2 ^ 32) (changes log.now n) }
     ensures { FoundPlace log.now n a result }
 {
-    let mut i = n;
-    while 0 < i {
-        let e = log[i - 1];
-        if e / 4294967296 < (a as u64) {
-            return i;
+    for i in (0..n).rev() {
+        if log[i] / 4294967296 < (a as u64) {
+            return i + 1;
         }
-        i -= 1;
     }
     0
 }
@@ -28,11 +25,7 @@ fn make_room(log: &mut [u64], n: usize, i: usize, p: u64)
     requires { (i ≤ n) × (n < length log.old) }
     ensures { log.new ≡ make_room log.old n i p }
 {
-    let mut j = n;
-    while i < j {
-        log[j] = log[j - 1];
-        j -= 1;
-    }
+    log.copy_within(i..n, i + 1);
     log[i] = p;
 }
 

@@ -9,10 +9,11 @@ use mathlib.Core.List.{List, ◌++◌, append_assoc, append-nil, reverse, revers
 use native.Mathlib.Omega.{arith}
 use lib.ListN.{length, take, drop, length-append, length-drop, length-reverse, take-append-drop}
 use lib.Seq.{slice, take-append-add, drop-append-le, drop-append-add, drop-drop, drop_at, length-slice, length-take-le}
+use Rattle.std.proofs.lemmas.Slice.{between_is}
 use Rattle.numbers.specs.Number.{written}
 use Rattle.numbers.proofs.WrittenLaws.{take_written, length_written}
 use Rattle.turned.specs.Turned.{turned}
-use Rattle.turned.proofs.PartLaws.{slice_join, slice_as_take, take_below, drop_above, slice_above, slice_below}
+use Rattle.turned.proofs.PartLaws.{slice_join, take_below, drop_above, slice_above, slice_below}
 
 pub turned_none : (h : ℕ) (p : List ℕ) → turned 0 h p ≡ p
 turned_none h p = ap (λ (l : List ℕ). l ++ drop h p) (append-nil (take h p)) ∙ take-append-drop h p
@@ -38,7 +39,7 @@ module _ (b h : ℕ) (p : List ℕ) (low : b ≤ h) (inside : h ≤ length p) wh
       let e : n ≡ length (slice b h p ++ take b p) + m = omega (arith, front_length) in
       ap (λ (i : ℕ). take i (turned b h p)) e
       ∙ take-append-add (slice b h p ++ take b p) (drop h p) m
-      ∙ ap (λ (l : List ℕ). slice b h p ++ take b p ++ l) (sym (slice_as_take h n p))
+      ∙ ap (λ (l : List ℕ). slice b h p ++ take b p ++ l) (between_is p h n)
 
   -- a record written above the turned part
   pub turned_written : (at : ℕ) (bs : List ℕ) → h ≤ at → at + length bs ≤ length p → turned b h (written p at bs) ≡ written (turned b h p) at bs
@@ -172,6 +173,3 @@ module _ (b h : ℕ) (p : List ℕ) (low : b ≤ h) (inside : h ≤ length p) wh
 pub drop_turned_done : (b h c mark : ℕ) (p l₁ l₂ : List ℕ) → b + c ≤ h → h + c ≤ mark → mark ≤ length p → l₁ ≡ written p b (slice h (h + c) p) → l₂ ≡ written l₁ h (slice (h + c) mark l₁)
     → turned (b + c) h l₂ ≡ written (turned b h p) 0 (slice c mark (turned b h p))
 drop_turned_done b h c mark p l₁ l₂ room above inside e f = rw (f, e) (turned_drop b h c mark p room above inside)
-
-pub turn_back_done : (b h : ℕ) (p l₁ l₂ l₃ : List ℕ) → b ≤ h → h ≤ length p → l₁ ≡ written p 0 (reverse (slice 0 b p)) → l₂ ≡ written l₁ b (reverse (slice b h l₁)) → l₃ ≡ written l₂ 0 (reverse (slice 0 h l₂)) → l₃ ≡ turned b h p
-turn_back_done b h p l₁ l₂ l₃ low inside e f g = rw (g, f, e) (turned_back b h p low inside)
