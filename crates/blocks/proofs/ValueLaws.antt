@@ -108,8 +108,3 @@ below_start l n p w e b = rw e b
 pub values_memory : (m m₁ r t : List ℕ) (p : Plan) (w : Way) → FitsIn 0 (length m) p → w ≡ put_way p
     → t ≡ put r (p.value / 65536) p.at → length t ≡ Slots → m₁ ≡ put_values t w p.flow m → m₁ ≡ block_put m r p
 values_memory m m₁ r t p w f e g x h = h ∙ block_put_is_values r t p f.words.1 x g w e m
-
--- a block that fits, above all that are noted
-pub whole_taken : (m l : List ℕ) (n : ℕ) (p : Plan) (w : Way) (a b : Bool) → w ≡ put_way p → a ≡ fits 0 (length m) p
-    → (b ≡ true → AllBelow l n (pins w.start)) → (a && b) ≡ true → (fits 0 (length m) p ≡ true) × AllBelow l n (pins (put_way p).start)
-whole_taken m l n p w a b e g h t = (sym g ∙ and_left a b t, rw (← e) (h (and_right a b t)))

@@ -17,6 +17,7 @@ use movem::{Spot, Way};
 use plan::Plan;
 
 // A plan's block as its room is asked: upward, downward from A7, every other byte.
+#[tactic(auto, unfolding(movem::specs::Movem::room_way))]
 fn room_way(p: Plan) -> Way
     ensures { result ≡ room_way p }
 {
@@ -48,6 +49,7 @@ fn room_way(p: Plan) -> Way
     }
 }
 
+#[tactic(auto, unfolding(movem::specs::Movem::room_one))]
 fn room_one(mem: &Parts, w: Way, d: Spot) -> Spot
     ensures { result ≡ room_one (view_of (map (λ x. x.now) mem.now)) w d }
 {
@@ -64,16 +66,15 @@ fn room_list(mem: &Parts, w: Way, f: Flow) -> Spot
     ensures { result ≡ room_list (view_of (map (λ x. x.now) mem.now)) w f }
 {
     let mut d = movem::first_spot(w, f);
-    let mut j: u32 = 0;
-    while j < 16 {
+    for _ in 0..16_u32 {
         d = room_one(mem, w, d);
-        j += 1;
     }
     d
 }
 
 // The flow with the fault that the block's writes meet first, if any. Where all of the block may be touched none does, and no word of it is
 // asked for.
+#[tactic(auto, using(movem::proofs::FitsLaws::room_whole), unfolding(movem::specs::Movem::block_room))]
 pub fn block_room(mem: &Parts, p: Plan) -> Flow
     ensures { result ≡ block_room (view_of (map (λ x. x.now) mem.now)) p }
 {
@@ -100,6 +101,7 @@ fn mirrored_byte(x: u32) -> u32
 }
 
 // The low sixteen bits in the other order.
+#[tactic(auto, unfolding(movem::specs::Movem::mirrored))]
 fn mirrored(x: u32) -> u32
     ensures { result ≡ mirrored x }
 {
@@ -107,6 +109,7 @@ fn mirrored(x: u32) -> u32
 }
 
 // A plan's block as it is stored, always upward: for -(An) from where An ended.
+#[tactic(auto, unfolding(movem::specs::Movem::put_way))]
 fn put_way(p: Plan) -> Way
     ensures { result ≡ put_way p }
 {
@@ -125,6 +128,7 @@ fn put_way(p: Plan) -> Way
 }
 
 // Register i as MOVEM stores it: the one that -(An) lowered, `own`, by its first value.
+#[tactic(auto, unfolding(movem::specs::Movem::stored))]
 fn stored(r: &[u32; SLOTS], first: u32, own: u32, i: u32) -> u32
     ensures { result ≡ stored r.now first own i }
 {
@@ -136,6 +140,7 @@ fn stored(r: &[u32; SLOTS], first: u32, own: u32, i: u32) -> u32
 }
 
 // The bytes of a long, high byte first, each as the low byte of a number.
+#[tactic(auto, unfolding(movem::specs::Movem::byte_of))]
 fn byte_of(v: u32, j: u32) -> u32
     ensures { result ≡ byte_of v j }
 {
@@ -148,6 +153,7 @@ fn byte_of(v: u32, j: u32) -> u32
 }
 
 // What a block has at place k of its list.
+#[tactic(auto, unfolding(movem::specs::Movem::part_of))]
 fn part_of(r: &[u32; SLOTS], p: Plan, k: u32) -> u32
     ensures { result ≡ part_of r.now p k }
 {
@@ -159,6 +165,7 @@ fn part_of(r: &[u32; SLOTS], p: Plan, k: u32) -> u32
 }
 
 // One part of a block, if the list has it, is noted in the log and put; how many entries the log then has.
+#[tactic(auto, unfolding(movem::specs::Movem::put_part))]
 fn store_part(
     memory: &mut [u8],
     log: &mut [u64],
@@ -190,11 +197,9 @@ fn store_list(memory: &mut [u8], log: &mut [u64], n: usize, r: &[u32; SLOTS], p:
     let w = put_way(p);
     let mut d = movem::first_spot(w, f);
     let mut m = n;
-    let mut j: u32 = 0;
-    while j < 16 {
+    for _ in 0..16_u32 {
         m = store_part(memory, log, m, r, p, w, d);
         d = movem::next_spot(w, d, f);
-        j += 1;
     }
     m
 }

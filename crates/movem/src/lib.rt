@@ -43,6 +43,7 @@ pub fn first_spot(w: Way, f: Flow) -> Spot
 }
 
 // Where it stands after one bit of its list.
+#[tactic(auto, unfolding(crate::specs::Movem::next_spot))]
 pub fn next_spot(w: Way, d: Spot, f: Flow) -> Spot
     ensures { result ≡ next_spot w d f }
 {
@@ -65,6 +66,7 @@ pub fn next_spot(w: Way, d: Spot, f: Flow) -> Spot
 }
 
 // Register k is loaded if the list has it; a word is carried on to 32 bits.
+#[tactic(auto, unfolding(crate::specs::Movem::load_one))]
 fn load_one(r: &mut [u32; SLOTS], mem: &Parts, k: u32, w: Way, d: Spot) -> Spot
     ensures { record { held = r.new; spot = result } ≡ load_one (view_of (map (λ x. x.now) mem.now)) k w (record { held = r.old; spot = d }) }
 {
@@ -83,15 +85,14 @@ fn load_list(r: &mut [u32; SLOTS], mem: &Parts, k: u32, w: Way, f: Flow) -> Spot
     ensures { record { held = r.new; spot = result } ≡ load_list r.old (view_of (map (λ x. x.now) mem.now)) k w f }
 {
     let mut d = first_spot(w, f);
-    let mut j: u32 = 0;
-    while j < 16 {
+    for _ in 0..16_u32 {
         d = load_one(r, mem, k, w, d);
-        j += 1;
     }
     d
 }
 
 // The address is formed once, before any load. (An)+, the only mode here that steps, leaves An at the final address.
+#[tactic(auto, unfolding(crate::specs::Movem::movem_to_registers))]
 pub fn movem_to_registers(r: &mut [u32; SLOTS], mem: &Parts, op: u32, f: Flow) -> Plan
     ensures { record { r = r.new; p = result } ≡ movem_to_registers r.old (view_of (map (λ x. x.now) mem.now)) op f }
 {
@@ -113,6 +114,7 @@ pub fn movem_to_registers(r: &mut [u32; SLOTS], mem: &Parts, op: u32, f: Flow) -
 }
 
 // MOVEM to -(An): the plan has An's first value, the bank its last.
+#[tactic(auto, unfolding(crate::specs::Movem::movem_down))]
 fn movem_down(r: &mut [u32; SLOTS], list: u32, op: u32, f: Flow) -> Plan
     ensures { record { r = r.new; p = result } ≡ movem_down r.old list op f }
 {
@@ -128,6 +130,7 @@ fn movem_down(r: &mut [u32; SLOTS], list: u32, op: u32, f: Flow) -> Plan
     )
 }
 
+#[tactic(auto, unfolding(crate::specs::Movem::movem_to_memory))]
 pub fn movem_to_memory(r: &mut [u32; SLOTS], mem: &Parts, op: u32, f: Flow) -> Plan
     ensures { record { r = r.new; p = result } ≡ movem_to_memory r.old (view_of (map (λ x. x.now) mem.now)) op f }
 {
