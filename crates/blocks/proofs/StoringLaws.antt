@@ -1,12 +1,12 @@
 -- StoringLaws.antt - laws of the loop that stores a block and notes it.
 -- sized_room, noted_sized (entries of the log); storing_again, -memory (the loop).
 -- Uses: bits, plan, touch, movem.
-use Rattle.std.proofs.Common.{◌≡◌, ℕ, ◌+◌, ◌*◌, ◌<◌, ◌≤◌, Bool, true, false, eqb, List, length, ap, arith}
+use Rattle.std.proofs.Common.{◌≡◌, ℕ, ◌+◌, ◌*◌, ◌<◌, ◌≤◌, Bool, true, false, eqb, List, ap, arith}
 use Rattle.bits.specs.Bits.{pick, by_size}
-use Rattle.bits.proofs.BitsLaws.{Turns, turns_start, turns_again}
+use Rattle.bits.proofs.BitsLaws.{Turns, turns_again}
 use Rattle.plan.specs.declared.Plan.{Plan}
-use Rattle.touch.specs.Touch.{LogOk, Noted}
-use Rattle.touch.proofs.TouchLaws.{noted_none, noted_then, noted_within}
+use Rattle.touch.specs.Touch.{Noted}
+use Rattle.touch.proofs.TouchLaws.{noted_then, noted_within}
 use Rattle.movem.specs.declared.Way.{Way}
 use Rattle.movem.specs.declared.Spot.{Spot}
 use Rattle.movem.specs.Movem.{first_spot, next_spot, Walk, put_way, put_part, put_one, block_put}

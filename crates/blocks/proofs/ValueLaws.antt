@@ -1,12 +1,11 @@
 -- ValueLaws.antt - a block of words that fits, stored as values: its way lies inside memory, and the copied registers are what it has at each place.
--- inside_when_fits; block_put_is_values.
+-- inside_when_fits; block_put_is_values; below_start, values_memory (what store_whole owes).
 -- Uses: bits, bus, operand, plan.
-use Rattle.std.proofs.Common.{◌≡◌, ℕ, zero, suc, ◌+◌, ◌*◌, ◌/◌, ◌<◌, ◌≤◌, Bool, true, false, ◌&&◌, eqb, ltb, List, length, get_or, set, sym, refl, ap, ◌∙◌, arith, length-set, get_or-set_other, get_or-set_same, ltb-false, ltb-true, lt-ltb, ne_eqb, eqb-true}
+use Rattle.std.proofs.Common.{◌≡◌, ℕ, zero, suc, ◌+◌, ◌*◌, ◌/◌, ◌<◌, ◌≤◌, Bool, true, false, eqb, ltb, List, length, get_or, set, sym, refl, ap, ◌∙◌, arith, length-set, get_or-set_other, get_or-set_same, ltb-false, ltb-true, lt-ltb, ne_eqb, eqb-true}
 use lib.Count.{ones_in}
 use borrow.Author.Tests.{eqb-false, lt-leb}
 use Rattle.codes.specs.Codes.{Slots}
 use Rattle.bits.specs.Bits.{iter}
-use Rattle.bits.proofs.BitsLaws.{and_left, and_right}
 use Rattle.bits.proofs.OnesLaws.{ones_low}
 use Rattle.bus.specs.Bus.{pins}
 use Rattle.operand.specs.Operands.{get, put}
@@ -15,7 +14,7 @@ use Rattle.touch.specs.Touch.{AllBelow}
 use Rattle.movem.specs.declared.Way.{Way}
 use Rattle.movem.specs.declared.Spot.{Spot}
 use Rattle.movem.specs.Movem.{first_spot, next_spot, Walk, mirrored_byte, mirrored, put_way, stored, part_of, put_part, put_one, block_put}
-use Rattle.movem.specs.Whole.{fits, Inside, put_value, put_values}
+use Rattle.movem.specs.Whole.{Inside, put_value, put_values}
 use Rattle.movem.proofs.MovemLaws.{walk}
 use Rattle.movem.proofs.BlockLaws.{part_of_register, stored_own, stored_other}
 use Rattle.movem.proofs.DownLaws.{ones_of_mirrored}

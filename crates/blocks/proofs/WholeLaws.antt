@@ -11,7 +11,7 @@ use Rattle.bits.proofs.OnesLaws.{ones_in_lem}
 use Rattle.bus.specs.declared.Flow.{Flow}
 use Rattle.bus.specs.Bus.{pins, put_sized}
 use Rattle.touch.specs.Touch.{AllBelow, LogOk, Noted}
-use Rattle.touch.proofs.TouchLaws.{noted_none, noted_then, noted_within}
+use Rattle.touch.proofs.TouchLaws.{noted_none, noted_then}
 use Rattle.movem.specs.declared.Way.{Way}
 use Rattle.movem.specs.declared.Spot.{Spot}
 use Rattle.movem.specs.Movem.{listed, first_spot, next_spot, Walk}

@@ -1,5 +1,5 @@
 -- store_values: what is left of the list, put now, gives all of it.
-use Rattle.std.proofs.Common.{◌≤◌, ◌<◌, arith}
+use Rattle.std.proofs.Common.{◌≤◌, arith}
 use Rattle.blocks.proofs.WholeLaws.{whole_start, whole_index, whole_room, whole_ready, whole_less, whole_again, whole_memory}
 use Rattle.blocks.proofs.whole.store_values.Goals as goal
 
