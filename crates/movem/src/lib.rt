@@ -48,19 +48,10 @@ pub fn next_spot(w: Way, d: Spot, f: Flow) -> Spot
     ensures { result ≡ next_spot w d f }
 {
     let on = d.list % 2 == 1;
-    let next = std::num::wrapping_add_u32(d.index, 1);
-    if on {
-        return Spot {
-            list: d.list / 2,
-            index: next,
-            at: std::num::wrapping_add_u32(d.at, w.step),
-            flow: f,
-        };
-    }
     Spot {
         list: d.list / 2,
-        index: next,
-        at: d.at,
+        index: d.index.wrapping_add(1),
+        at: if on { d.at.wrapping_add(w.step) } else { d.at },
         flow: f,
     }
 }
@@ -70,15 +61,13 @@ pub fn next_spot(w: Way, d: Spot, f: Flow) -> Spot
 fn load_one(r: &mut [u32; SLOTS], mem: &Parts, k: u32, w: Way, d: Spot) -> Spot
     ensures { record { held = r.new; spot = result } ≡ load_one (view_of (map (λ x. x.now) mem.now)) k w (record { held = r.old; spot = d }) }
 {
-    let f = d.flow;
     let on = d.list % 2 == 1;
     if on {
-        let y = bus::read_sized(mem, d.at, w.size, k, f);
-        let g = y.flow;
+        let y = bus::read_sized(mem, d.at, w.size, k, d.flow);
         operand::put(r, d.index, bits::sign_extended(y.value, w.size));
-        return next_spot(w, d, g);
+        return next_spot(w, d, y.flow);
     }
-    next_spot(w, d, f)
+    next_spot(w, d, d.flow)
 }
 
 fn load_list(r: &mut [u32; SLOTS], mem: &Parts, k: u32, w: Way, f: Flow) -> Spot
@@ -98,19 +87,16 @@ pub fn movem_to_registers(r: &mut [u32; SLOTS], mem: &Parts, op: u32, f: Flow) -
 {
     let z = 1 + op / 64 % 2;
     let l = bus::next_word(mem, f);
-    let g = l.flow;
-    let q = operand::locate(r, mem, op / 8 % 8, op % 8, z, g);
-    let h = q.flow;
+    let q = operand::locate(r, mem, op / 8 % 8, op % 8, z, l.flow);
     let w = Way {
         size: z,
         list: l.value,
         start: q.at,
         step: 2 * z,
     };
-    let d = load_list(r, mem, q.access, w, h);
-    let e = d.flow;
+    let d = load_list(r, mem, q.access, w, q.flow);
     operand::put(r, q.reg, d.at);
-    plan::nothing(e)
+    plan::nothing(d.flow)
 }
 
 // MOVEM to -(An): the plan has An's first value, the bank its last.
@@ -135,17 +121,15 @@ pub fn movem_to_memory(r: &mut [u32; SLOTS], mem: &Parts, op: u32, f: Flow) -> P
     ensures { record { r = r.new; p = result } ≡ movem_to_memory r.old (view_of (map (λ x. x.now) mem.now)) op f }
 {
     let l = bus::next_word(mem, f);
-    let g = l.flow;
     let down = op / 8 % 8 == codes::PREDECREMENT;
     if down {
-        return movem_down(r, l.value, op, g);
+        return movem_down(r, l.value, op, l.flow);
     }
-    let q = operand::locate(r, mem, op / 8 % 8, op % 8, 1 + op / 64 % 2, g);
-    let h = q.flow;
+    let q = operand::locate(r, mem, op / 8 % 8, op % 8, 1 + op / 64 % 2, l.flow);
     plan::writing(
         codes::BLOCK_UP + op / 64 % 2,
         q.at,
         l.value + 65536 * codes::NO_REGISTER,
-        h,
+        q.flow,
     )
 }
