@@ -23,29 +23,25 @@ fn room_way(p: Plan) -> Way
 {
     let z = 1 + p.write % 2;
     let list = p.value % 65536;
-    let up = p.write / 2 == codes::UPWARD;
-    let down = p.write / 2 == codes::DOWNWARD;
-    if up {
-        return Way {
+    match p.write / 2 {
+        codes::UPWARD => Way {
             size: z,
             list,
             start: p.at,
             step: 2 * z,
-        };
-    }
-    if down {
-        return Way {
+        },
+        codes::DOWNWARD => Way {
             size: z,
             list,
             start: bits::minus(p.at, 2 * z),
             step: bits::minus(0, 2 * z),
-        };
-    }
-    Way {
-        size: codes::BYTE,
-        list: 3 + p.write % 2 * 12,
-        start: p.at,
-        step: 2,
+        },
+        _ => Way {
+            size: codes::BYTE,
+            list: 3 + p.write % 2 * 12,
+            start: p.at,
+            step: 2,
+        },
     }
 }
 
@@ -53,13 +49,11 @@ fn room_way(p: Plan) -> Way
 fn room_one(mem: &Parts, w: Way, d: Spot) -> Spot
     ensures { result ≡ room_one (view_of (map (λ x. x.now) mem.now)) w d }
 {
-    let f = d.flow;
     let on = d.list % 2 == 1;
     if on {
-        let g = bus::room(mem, d.at, w.size, f);
-        return movem::next_spot(w, d, g);
+        return movem::next_spot(w, d, bus::room(mem, d.at, w.size, d.flow));
     }
-    movem::next_spot(w, d, f)
+    movem::next_spot(w, d, d.flow)
 }
 
 fn room_list(mem: &Parts, w: Way, f: Flow) -> Spot
@@ -78,13 +72,11 @@ fn room_list(mem: &Parts, w: Way, f: Flow) -> Spot
 pub fn block_room(mem: &Parts, p: Plan) -> Flow
     ensures { result ≡ block_room (view_of (map (λ x. x.now) mem.now)) p }
 {
-    let f = p.flow;
     let whole = whole::fits(bus::low(mem), bus::below(mem).len(), p);
     if whole {
-        return f;
+        return p.flow;
     }
-    let d = room_list(mem, room_way(p), f);
-    d.flow
+    room_list(mem, room_way(p), p.flow).flow
 }
 
 fn mirrored_byte(x: u32) -> u32
@@ -132,8 +124,7 @@ fn put_way(p: Plan) -> Way
 fn stored(r: &[u32; SLOTS], first: u32, own: u32, i: u32) -> u32
     ensures { result ≡ stored r.now first own i }
 {
-    let same = i == own;
-    if same {
+    if i == own {
         return first;
     }
     operand::get(r, i)
@@ -157,8 +148,7 @@ fn byte_of(v: u32, j: u32) -> u32
 fn part_of(r: &[u32; SLOTS], p: Plan, k: u32) -> u32
     ensures { result ≡ part_of r.now p k }
 {
-    let bytes = codes::EVERY_OTHER <= p.write;
-    if bytes {
+    if codes::EVERY_OTHER <= p.write {
         return byte_of(p.value, k % 16 + 2 - p.write % 2 * 2);
     }
     stored(r, p.at, p.value / 65536, k)
@@ -193,13 +183,12 @@ fn store_list(memory: &mut [u8], log: &mut [u64], n: usize, r: &[u32; SLOTS], p:
     ensures memory { memory.new ≡ block_put memory.old r.now p }
     ensures noted { Noted memory.old log.old n 64 memory.new log.new result }
 {
-    let f = p.flow;
     let w = put_way(p);
-    let mut d = movem::first_spot(w, f);
+    let mut d = movem::first_spot(w, p.flow);
     let mut m = n;
     for _ in 0..16_u32 {
         m = store_part(memory, log, m, r, p, w, d);
-        d = movem::next_spot(w, d, f);
+        d = movem::next_spot(w, d, p.flow);
     }
     m
 }

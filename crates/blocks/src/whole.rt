@@ -32,13 +32,11 @@ fn skipped(d: Spot) -> Spot
     requires { 1 ≤ d.list }
     ensures { result ≡ skipped d }
 {
-    let f = d.flow;
-    let z = u32::trailing_zeros(d.list);
+    let z = d.list.trailing_zeros();
     Spot {
         list: d.list >> z,
-        index: std::num::wrapping_add_u32(d.index, z),
-        at: d.at,
-        flow: f,
+        index: d.index.wrapping_add(z),
+        ..d
     }
 }
 
@@ -47,12 +45,11 @@ fn skipped(d: Spot) -> Spot
 fn passed(w: Way, d: Spot) -> Spot
     ensures { result ≡ passed w d }
 {
-    let f = d.flow;
     Spot {
         list: d.list / 2,
-        index: std::num::wrapping_add_u32(d.index, 1),
-        at: std::num::wrapping_add_u32(d.at, w.step),
-        flow: f,
+        index: d.index.wrapping_add(1),
+        at: d.at.wrapping_add(w.step),
+        ..d
     }
 }
 
@@ -84,9 +81,8 @@ pub fn store_whole(memory: &mut [u8], log: &mut [u64], n: usize, r: &[u32; SLOTS
     ensures memory { memory.new ≡ block_put memory.old r.now p }
     ensures noted { Noted memory.old log.old n 64 memory.new log.new result }
 {
-    let f = p.flow;
     let w = crate::put_way(p);
     let mut t = *r;
     operand::put(&mut t, p.value / 65536, p.at);
-    store_values(memory, log, n, &t, w, f)
+    store_values(memory, log, n, &t, w, p.flow)
 }
