@@ -1,5 +1,5 @@
 // lib.rt - the writes of a plan's block: MOVEM's registers, MOVEP's bytes. Its room is asked, and it is stored, its list walked once.
-// Means: specs/Movem.antt of the crate movem.  Laws: proofs/StoringLaws.antt here, MovemLaws and BlockLaws there.
+// Means: specs/Movem.antt of the crate movem.  Laws: proofs/StoringLaws.antt here; MovemLaws, FitsLaws there.
 // Uses: codes, bits, bus, operand, plan, store, touch, movem.  Source: [003 B MOVEM], [003 B MOVEP], [01 step 6], [01 Operands], [K6].
 #![tactic(auto)]
 
