@@ -3,15 +3,17 @@
 -- * slots_in_block, block_of_slots_in: the same for twenty slots and for eighty bytes.
 -- * length_of_slots, length_of_block: their lengths. words_of_slots, bytes_of_block: slots of bytes have 32 bits, and the block of such is bytes.
 --   So the blocks of 80 bytes and the twenty slots of 32 bits stand for each other, one for one.
--- * filled, read_whole, written_one: what the loops of slots_in and put_slots have done after a turn, and after the last.
+-- * filled, read_whole, written_one: what the loops of slots_in and put_block have done after a turn, and after the last.
 -- Source: [K1].
 use Prim.Native.Nat.{ℕ, zero, suc, ◌+◌, ◌*◌, ◌/◌, ◌%◌, ◌^◌, ◌≤◌, ◌<◌}
 use mathlib.Core.Path.{◌≡◌, refl, sym, ap, ◌∙◌}
 use mathlib.Core.List.{List, [], ◌∷◌, ◌++◌}
 use native.Mathlib.Numerals.{add-one}
 use native.Mathlib.Omega.{arith}
-use lib.ListN.{length, get_or, set, take, drop, replicate, length-append}
-use lib.Seq.{sets, sets-eq, take_at, length-take-le}
+use lib.ListN.{length, get_or, set, take, drop, replicate}
+use borrow.Rule.Slice.PartMut.{put_mid}
+use Rattle.std.specs.Int.{w32, to_be_bytes}
+use Rattle.std.proofs.lemmas.Slice.{take-put_mid}
 use Rattle.record.specs.Limits.{Each, ValidBytes, slot_limit}
 use Rattle.block.specs.Block.{block_length, slot_of, slot_bytes, slot_at, slots_from, slots_in, block_of}
 
@@ -126,24 +128,27 @@ slots_from_start (suc n) b e = go b (as_four n b e) e (slots_from_start n)
 pub read_whole : (b : List ℕ) → length b ≡ block_length → filled b slot_limit ≡ slots_in b
 read_whole b e = slots_from_start slot_limit b e
 
--- ---- put_slots: the block after i turns begins with the first i slots
+-- ---- put_block: the block after i turns begins with the first i slots
 block_of_take : (s : List ℕ) (i : ℕ) → i < length s → block_of (take (suc i) s) ≡ block_of (take i s) ++ slot_bytes (get_or s i 0)
 unfolding block_of
 block_of_take [] i h = absurd (omega arith)
 block_of_take (v ∷ s) zero h = refl
 block_of_take (v ∷ s) (suc i) h = ap (λ (l : List ℕ). slot_bytes v ++ l) (block_of_take s i (omega arith))
 
+-- the bytes that the library gives for a number of 32 bits
+bytes_of_slot : (v : ℕ) → v < 2 ^ 32 → to_be_bytes w32 v ≡ slot_bytes v
+bytes_of_slot v h = let top : v / 0x1000000 % 0x100 ≡ v / 0x1000000 = omega arith in rw top
+
 -- one turn
-pub written_one : (b s : List ℕ) (i : ℕ) → length b ≡ 4 * length s → i < length s → take (4 * i) b ≡ block_of (take i s)
-    → take (4 * (i + 1)) (sets b (4 * i) (slot_bytes (get_or s i 0))) ≡ block_of (take (i + 1) s)
-written_one b s i e h q =
+pub written_one : (b s l : List ℕ) (i k : ℕ) → length b ≡ 4 * length s → i < length s → get_or s i 0 < 2 ^ 32 → l ≡ to_be_bytes w32 (get_or s i 0)
+    → take (4 * i) b ≡ block_of (take i s) → take (4 * (i + 1)) (put_mid (4 * i) k b l) ≡ block_of (take (i + 1) s)
+written_one b s l i k e h small told q =
     let v = slot_bytes (get_or s i 0) in
-    let inside : 4 * i + 4 ≤ length b = omega (arith, e, h) in
+    let is : l ≡ v = told ∙ bytes_of_slot (get_or s i 0) small in
     let before : 4 * i ≤ length b = omega (arith, e, h) in
-    let up : 4 * i + 4 ≡ 4 * (i + 1) = omega arith in
-    ap (take (4 * (i + 1))) (sets-eq v b (4 * i) inside)
-    ∙ take_at (take (4 * i) b ++ v) (drop (4 * i + 4) b) (4 * (i + 1))
-    (length-append (take (4 * i) b) v ∙ ap (λ (k : ℕ). k + 4) (length-take-le (4 * i) b before) ∙ up)
-    ∙ ap (λ (l : List ℕ). l ++ v) q
+    let up : 4 * (i + 1) ≡ 4 * i + length l = omega (arith, ap length is) in
+    take-put_mid (4 * i) k b l (4 * (i + 1)) up before
+    ∙ ap (λ (y : List ℕ). take (4 * i) b ++ y) is
+    ∙ ap (λ (y : List ℕ). y ++ v) q
     ∙ sym (block_of_take s i h)
     ∙ ap (λ (k : ℕ). block_of (take k s)) (sym (add-one i))

@@ -1,12 +1,12 @@
 -- StoringLaws.antt - laws of the loop that stores a block and notes it.
--- sized_room, noted_sized (entries of the log); storing_start, -room, -again, -memory, -noted (the loop).
+-- sized_room, noted_sized (entries of the log); storing_again, -memory (the loop).
 -- Uses: bits, plan, touch, movem.
-use Rattle.std.proofs.Common.{◌≡◌, ℕ, ◌+◌, ◌*◌, ◌<◌, ◌≤◌, Bool, true, false, eqb, List, length, ap, arith}
+use Rattle.std.proofs.Common.{◌≡◌, ℕ, ◌+◌, ◌*◌, ◌<◌, ◌≤◌, Bool, true, false, eqb, List, ap, arith}
 use Rattle.bits.specs.Bits.{pick, by_size}
-use Rattle.bits.proofs.BitsLaws.{Turns, turns_start, turns_again}
+use Rattle.bits.proofs.BitsLaws.{Turns, turns_again}
 use Rattle.plan.specs.declared.Plan.{Plan}
-use Rattle.touch.specs.Touch.{LogOk, Noted}
-use Rattle.touch.proofs.TouchLaws.{noted_none, noted_then, noted_within}
+use Rattle.touch.specs.Touch.{Noted}
+use Rattle.touch.proofs.TouchLaws.{noted_then, noted_within}
 use Rattle.movem.specs.declared.Way.{Way}
 use Rattle.movem.specs.declared.Spot.{Spot}
 use Rattle.movem.specs.Movem.{first_spot, next_spot, Walk, put_way, put_part, put_one, block_put}
@@ -35,13 +35,7 @@ pub record Storing (r : List ℕ) (p : Plan) (w : Way) (m₀ l₀ : List ℕ) (n
   pub noted : Noted m₀ l₀ n₀ (j * 4) m l n
 
 module _ (r : List ℕ) (p : Plan) (w : Way) (m₀ l₀ : List ℕ) (n₀ : ℕ) (d₀ : Spot) where
-  pub storing_start : LogOk m₀ l₀ n₀ → Storing r p w m₀ l₀ n₀ d₀ 0 m₀ l₀ n₀ d₀
-  storing_start ok = record { turns = turns_start (put_one r p w) 16 (walk m₀ d₀); noted = noted_none m₀ l₀ n₀ ok }
-
   module _ (j : ℕ) (m l : List ℕ) (n : ℕ) (d : Spot) (s : Storing r p w m₀ l₀ n₀ d₀ j m l n d) where
-    pub storing_room : j < 16 → n₀ + 64 ≤ length l₀ → n + 4 ≤ length l
-    storing_room h q = omega (arith, s.noted.most, s.noted.long)
-
     pub storing_again : (m₁ l₁ : List ℕ) (n₁ : ℕ) (e : Spot) → j < 16 → m₁ ≡ put_part r p w d m → Noted m l n 4 m₁ l₁ n₁ → e ≡ next_spot w d p.flow
         → Storing r p w m₀ l₀ n₀ d₀ (j + 1) m₁ l₁ n₁ e
     unfolding put_one
@@ -53,6 +47,3 @@ module _ (r : List ℕ) (p : Plan) (w : Way) (m₀ l₀ : List ℕ) (n₀ : ℕ)
     pub storing_memory : 16 ≤ j → w ≡ put_way p → d₀ ≡ first_spot w p.flow → m ≡ block_put m₀ r p
     unfolding block_put
     storing_memory h e q = let t = ap (λ (y : Walk). y.held) (walk_end (put_one r p w) 16 j m₀ d₀ m d (first_spot w p.flow) s.turns q h) in cc
-
-    pub storing_noted : Noted m₀ l₀ n₀ 64 m l n
-    storing_noted = noted_within m₀ l₀ n₀ (j * 4) m l n 64 s.noted (omega (arith, s.turns.le))

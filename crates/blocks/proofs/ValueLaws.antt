@@ -1,12 +1,11 @@
 -- ValueLaws.antt - a block of words that fits, stored as values: its way lies inside memory, and the copied registers are what it has at each place.
--- inside_when_fits; block_put_is_values.
+-- inside_when_fits; block_put_is_values; below_start, values_memory (what store_whole owes).
 -- Uses: bits, bus, operand, plan.
-use Rattle.std.proofs.Common.{◌≡◌, ℕ, zero, suc, ◌+◌, ◌*◌, ◌/◌, ◌<◌, ◌≤◌, Bool, true, false, ◌&&◌, eqb, ltb, List, length, get_or, set, sym, refl, ap, ◌∙◌, arith, length-set, get_or-set_other, get_or-set_same, ltb-false, ltb-true, lt-ltb, ne_eqb, eqb-true}
+use Rattle.std.proofs.Common.{◌≡◌, ℕ, zero, suc, ◌+◌, ◌*◌, ◌/◌, ◌<◌, ◌≤◌, Bool, true, false, eqb, ltb, List, length, get_or, set, sym, refl, ap, ◌∙◌, arith, length-set, get_or-set_other, get_or-set_same, ltb-false, ltb-true, lt-ltb, ne_eqb, eqb-true}
 use lib.Count.{ones_in}
 use borrow.Author.Tests.{eqb-false, lt-leb}
 use Rattle.codes.specs.Codes.{Slots}
 use Rattle.bits.specs.Bits.{iter}
-use Rattle.bits.proofs.BitsLaws.{and_left, and_right}
 use Rattle.bits.proofs.OnesLaws.{ones_low}
 use Rattle.bus.specs.Bus.{pins}
 use Rattle.operand.specs.Operands.{get, put}
@@ -15,7 +14,7 @@ use Rattle.touch.specs.Touch.{AllBelow}
 use Rattle.movem.specs.declared.Way.{Way}
 use Rattle.movem.specs.declared.Spot.{Spot}
 use Rattle.movem.specs.Movem.{first_spot, next_spot, Walk, mirrored_byte, mirrored, put_way, stored, part_of, put_part, put_one, block_put}
-use Rattle.movem.specs.Whole.{fits, Inside, put_value, put_values}
+use Rattle.movem.specs.Whole.{Inside, put_value, put_values}
 use Rattle.movem.proofs.MovemLaws.{walk}
 use Rattle.movem.proofs.BlockLaws.{part_of_register, stored_own, stored_other}
 use Rattle.movem.proofs.DownLaws.{ones_of_mirrored}
@@ -108,8 +107,3 @@ below_start l n p w e b = rw e b
 pub values_memory : (m m₁ r t : List ℕ) (p : Plan) (w : Way) → FitsIn 0 (length m) p → w ≡ put_way p
     → t ≡ put r (p.value / 65536) p.at → length t ≡ Slots → m₁ ≡ put_values t w p.flow m → m₁ ≡ block_put m r p
 values_memory m m₁ r t p w f e g x h = h ∙ block_put_is_values r t p f.words.1 x g w e m
-
--- a block that fits, above all that are noted
-pub whole_taken : (m l : List ℕ) (n : ℕ) (p : Plan) (w : Way) (a b : Bool) → w ≡ put_way p → a ≡ fits 0 (length m) p
-    → (b ≡ true → AllBelow l n (pins w.start)) → (a && b) ≡ true → (fits 0 (length m) p ≡ true) × AllBelow l n (pins (put_way p).start)
-whole_taken m l n p w a b e g h t = (sym g ∙ and_left a b t, rw (← e) (h (and_right a b t)))

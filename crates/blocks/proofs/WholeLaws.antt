@@ -1,5 +1,5 @@
 -- WholeLaws.antt - values are put by going from one of a list to the next: that is the walk over all its bits, without its idle turns.
--- zeros_few, skipped_is, passed_is; whole_start, -index, -room, -ready, -less, -again, -memory, -noted (the loop).
+-- whole_start, -index, -room, -ready, -less, -again, -memory (the loop).
 -- Uses: bits, bus, operand, plan, touch.
 use Rattle.std.proofs.Common.{◌≡◌, ℕ, zero, suc, ◌+◌, ◌-◌, ◌*◌, ◌/◌, ◌%◌, ◌^◌, ◌<◌, ◌≤◌, Bool, true, false, eqb, List, length, get_or, sym, refl, ap, ◌∙◌, mul-le-mul_right, pow-suc, arith, eq-eqb, ne_eqb, eqb-true}
 use native.Mathlib.Nat.{div-div-eq-div-mul}
@@ -11,37 +11,12 @@ use Rattle.bits.proofs.OnesLaws.{ones_in_lem}
 use Rattle.bus.specs.declared.Flow.{Flow}
 use Rattle.bus.specs.Bus.{pins, put_sized}
 use Rattle.touch.specs.Touch.{AllBelow, LogOk, Noted}
-use Rattle.touch.proofs.TouchLaws.{noted_none, noted_then, noted_within}
+use Rattle.touch.proofs.TouchLaws.{noted_none, noted_then}
 use Rattle.movem.specs.declared.Way.{Way}
 use Rattle.movem.specs.declared.Spot.{Spot}
 use Rattle.movem.specs.Movem.{listed, first_spot, next_spot, Walk}
 use Rattle.movem.specs.Whole.{skipped, passed, Inside, put_value, put_values}
 use Rattle.movem.proofs.MovemLaws.{walk}
-
--- ---- what skipped and passed owe
-zeros_below : (k x : ℕ) → 1 ≤ x → x < 2 ^ k → count_trailing_zeros k x < k
-unfolding count_trailing_zeros
-zeros_below zero x h l = absurd (omega arith)
-zeros_below (suc k) x h l = go (eqb (x % 2) 1) refl (λ q. zeros_below k (x / 2) q (omega (arith, pow-suc 2 k, l)))
-  where
-    go : (b : Bool) → eqb (x % 2) 1 ≡ b → (1 ≤ x / 2 → count_trailing_zeros k (x / 2) < k) → count_trailing_zeros (suc k) x < suc k
-    go true e r = let o = eqb-true (x % 2) 1 e in rw o (omega arith)
-    go false e r =
-        let o : x % 2 ≡ 0 = omega (arith, eqb-false (x % 2) 1 e) in
-        let y = r (omega arith) in rw o (omega arith)
-
-pub zeros_few : (x : ℕ) → 1 ≤ x → x < 2 ^ 32 → count_trailing_zeros 32 x < 32
-zeros_few x h l = zeros_below 32 x h l
-
-pub skipped_is : (d : Spot) (i : ℕ) → i ≡ plus d.index (count_trailing_zeros 32 d.list)
-    → record { list = d.list / 2 ^ count_trailing_zeros 32 d.list; index = i; at = d.at; flow = d.flow } ≡ skipped d
-unfolding skipped
-skipped_is d i e = cc
-
-pub passed_is : (w : Way) (d : Spot) (i a : ℕ) → i ≡ plus d.index 1 → a ≡ plus d.at w.step
-    → record { list = d.list / 2; index = i; at = a; flow = d.flow } ≡ passed w d
-unfolding passed
-passed_is w d i a e g = cc
 
 -- ---- turns at which the list has nothing
 module _ (f : Walk → Walk) (w : Way) (g : Flow)
@@ -254,6 +229,3 @@ module _ (t : List ℕ) (w : Way) (f : Flow) (m₀ l₀ : List ℕ) (n₀ : ℕ)
       let g = d₀.flow in
       sym (idle_rest (put_value t w g) w g (value_idle t w g) (16 - d.index) m d s.flow e)
       ∙ ap (λ (y : Walk). y.held) s.turns.rest ∙ rw h
-
-  pub whole_noted : Noted m₀ l₀ n₀ 64 m l n
-  whole_noted = noted_within m₀ l₀ n₀ (d.index * 4) m l n 64 s.noted (omega (arith, s.turns.le))

@@ -1,5 +1,5 @@
 // lib.rt - the writes of a plan's block: MOVEM's registers, MOVEP's bytes. Its room is asked, and it is stored, its list walked once.
-// Means: specs/Movem.antt of the crate movem.  Laws: proofs/StoringLaws.antt here, MovemLaws and BlockLaws there.
+// Means: specs/Movem.antt of the crate movem.  Laws: proofs/StoringLaws.antt here; MovemLaws, FitsLaws there.
 // Uses: codes, bits, bus, operand, plan, store, touch, movem.  Source: [003 B MOVEM], [003 B MOVEP], [01 step 6], [01 Operands], [K6].
 #![tactic(auto)]
 
@@ -17,73 +17,66 @@ use movem::{Spot, Way};
 use plan::Plan;
 
 // A plan's block as its room is asked: upward, downward from A7, every other byte.
+#[tactic(auto, unfolding(movem::specs::Movem::room_way))]
 fn room_way(p: Plan) -> Way
     ensures { result ≡ room_way p }
 {
     let z = 1 + p.write % 2;
     let list = p.value % 65536;
-    let up = p.write / 2 == codes::UPWARD;
-    let down = p.write / 2 == codes::DOWNWARD;
-    if up {
-        return Way {
+    match p.write / 2 {
+        codes::UPWARD => Way {
             size: z,
             list,
             start: p.at,
             step: 2 * z,
-        };
-    }
-    if down {
-        return Way {
+        },
+        codes::DOWNWARD => Way {
             size: z,
             list,
             start: bits::minus(p.at, 2 * z),
             step: bits::minus(0, 2 * z),
-        };
-    }
-    Way {
-        size: codes::BYTE,
-        list: 3 + p.write % 2 * 12,
-        start: p.at,
-        step: 2,
+        },
+        _ => Way {
+            size: codes::BYTE,
+            list: 3 + p.write % 2 * 12,
+            start: p.at,
+            step: 2,
+        },
     }
 }
 
+#[tactic(auto, unfolding(movem::specs::Movem::room_one))]
 fn room_one(mem: &Parts, w: Way, d: Spot) -> Spot
     ensures { result ≡ room_one (view_of (map (λ x. x.now) mem.now)) w d }
 {
-    let f = d.flow;
     let on = d.list % 2 == 1;
     if on {
-        let g = bus::room(mem, d.at, w.size, f);
-        return movem::next_spot(w, d, g);
+        return movem::next_spot(w, d, bus::room(mem, d.at, w.size, d.flow));
     }
-    movem::next_spot(w, d, f)
+    movem::next_spot(w, d, d.flow)
 }
 
 fn room_list(mem: &Parts, w: Way, f: Flow) -> Spot
     ensures { result ≡ room_list (view_of (map (λ x. x.now) mem.now)) w f }
 {
     let mut d = movem::first_spot(w, f);
-    let mut j: u32 = 0;
-    while j < 16 {
+    for _ in 0..16_u32 {
         d = room_one(mem, w, d);
-        j += 1;
     }
     d
 }
 
 // The flow with the fault that the block's writes meet first, if any. Where all of the block may be touched none does, and no word of it is
 // asked for.
+#[tactic(auto, using(movem::proofs::FitsLaws::room_whole), unfolding(movem::specs::Movem::block_room))]
 pub fn block_room(mem: &Parts, p: Plan) -> Flow
     ensures { result ≡ block_room (view_of (map (λ x. x.now) mem.now)) p }
 {
-    let f = p.flow;
     let whole = whole::fits(bus::low(mem), bus::below(mem).len(), p);
     if whole {
-        return f;
+        return p.flow;
     }
-    let d = room_list(mem, room_way(p), f);
-    d.flow
+    room_list(mem, room_way(p), p.flow).flow
 }
 
 fn mirrored_byte(x: u32) -> u32
@@ -100,6 +93,7 @@ fn mirrored_byte(x: u32) -> u32
 }
 
 // The low sixteen bits in the other order.
+#[tactic(auto, unfolding(movem::specs::Movem::mirrored))]
 fn mirrored(x: u32) -> u32
     ensures { result ≡ mirrored x }
 {
@@ -107,6 +101,7 @@ fn mirrored(x: u32) -> u32
 }
 
 // A plan's block as it is stored, always upward: for -(An) from where An ended.
+#[tactic(auto, unfolding(movem::specs::Movem::put_way))]
 fn put_way(p: Plan) -> Way
     ensures { result ≡ put_way p }
 {
@@ -125,17 +120,18 @@ fn put_way(p: Plan) -> Way
 }
 
 // Register i as MOVEM stores it: the one that -(An) lowered, `own`, by its first value.
+#[tactic(auto, unfolding(movem::specs::Movem::stored))]
 fn stored(r: &[u32; SLOTS], first: u32, own: u32, i: u32) -> u32
     ensures { result ≡ stored r.now first own i }
 {
-    let same = i == own;
-    if same {
+    if i == own {
         return first;
     }
     operand::get(r, i)
 }
 
 // The bytes of a long, high byte first, each as the low byte of a number.
+#[tactic(auto, unfolding(movem::specs::Movem::byte_of))]
 fn byte_of(v: u32, j: u32) -> u32
     ensures { result ≡ byte_of v j }
 {
@@ -148,17 +144,18 @@ fn byte_of(v: u32, j: u32) -> u32
 }
 
 // What a block has at place k of its list.
+#[tactic(auto, unfolding(movem::specs::Movem::part_of))]
 fn part_of(r: &[u32; SLOTS], p: Plan, k: u32) -> u32
     ensures { result ≡ part_of r.now p k }
 {
-    let bytes = codes::EVERY_OTHER <= p.write;
-    if bytes {
+    if codes::EVERY_OTHER <= p.write {
         return byte_of(p.value, k % 16 + 2 - p.write % 2 * 2);
     }
     stored(r, p.at, p.value / 65536, k)
 }
 
 // One part of a block, if the list has it, is noted in the log and put; how many entries the log then has.
+#[tactic(auto, unfolding(movem::specs::Movem::put_part))]
 fn store_part(
     memory: &mut [u8],
     log: &mut [u64],
@@ -186,15 +183,12 @@ fn store_list(memory: &mut [u8], log: &mut [u64], n: usize, r: &[u32; SLOTS], p:
     ensures memory { memory.new ≡ block_put memory.old r.now p }
     ensures noted { Noted memory.old log.old n 64 memory.new log.new result }
 {
-    let f = p.flow;
     let w = put_way(p);
-    let mut d = movem::first_spot(w, f);
+    let mut d = movem::first_spot(w, p.flow);
     let mut m = n;
-    let mut j: u32 = 0;
-    while j < 16 {
+    for _ in 0..16_u32 {
         m = store_part(memory, log, m, r, p, w, d);
-        d = movem::next_spot(w, d, f);
-        j += 1;
+        d = movem::next_spot(w, d, p.flow);
     }
     m
 }

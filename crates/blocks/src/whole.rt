@@ -27,44 +27,43 @@ pub fn fits(lo: usize, hi: usize, p: Plan) -> bool
 }
 
 // The walk at the next register that the list has.
+#[tactic(auto, unfolding(movem::specs::Whole::skipped))]
 fn skipped(d: Spot) -> Spot
     requires { 1 ≤ d.list }
     ensures { result ≡ skipped d }
 {
-    let f = d.flow;
-    let z = u32::trailing_zeros(d.list);
+    let z = d.list.trailing_zeros();
     Spot {
         list: d.list >> z,
-        index: std::num::wrapping_add_u32(d.index, z),
-        at: d.at,
-        flow: f,
+        index: d.index.wrapping_add(z),
+        ..d
     }
 }
 
 // The walk after a register that the list has.
+#[tactic(auto, unfolding(movem::specs::Whole::passed))]
 fn passed(w: Way, d: Spot) -> Spot
     ensures { result ≡ passed w d }
 {
-    let f = d.flow;
     Spot {
         list: d.list / 2,
-        index: std::num::wrapping_add_u32(d.index, 1),
-        at: std::num::wrapping_add_u32(d.at, w.step),
-        flow: f,
+        index: d.index.wrapping_add(1),
+        at: d.at.wrapping_add(w.step),
+        ..d
     }
 }
 
 // Puts the values that the list has, from one to the next, and notes what stood there; how many entries the log then has. The way lies in
-// memory as a whole, above all that are noted. That the values are twenty is told back.
+// memory as a whole, above all that are noted.
 fn store_values(memory: &mut [u8], log: &mut [u64], n: usize, t: &[u32], w: Way, f: Flow) -> usize
     requires log_ok { LogOk memory.old log.old n × (n + 64 ≤ length log.old) × (length t.now ≡ Slots) }
     requires inside { Inside (length memory.old) w × AllBelow log.old n (pins w.start) }
     ensures memory { memory.new ≡ put_values t.now w f memory.old }
     ensures noted { Noted memory.old log.old n 64 memory.new log.new result }
-    ensures twenty { length t.now ≡ Slots }
 {
     let mut d = movem::first_spot(w, f);
     let mut m = n;
+    // A `while`: a turn passes as many registers as stand below the next one of the list, so no range has the turns.
     while d.list != 0 {
         let e = skipped(d);
         let i = e.index as usize;
@@ -72,24 +71,6 @@ fn store_values(memory: &mut [u8], log: &mut [u64], n: usize, t: &[u32], w: Way,
         d = passed(w, e);
     }
     m
-}
-
-// The same of an array. Only where it is lent on as a slice is its length known.
-fn store_copied(
-    memory: &mut [u8],
-    log: &mut [u64],
-    n: usize,
-    t: &[u32; SLOTS],
-    w: Way,
-    f: Flow,
-) -> usize
-    requires log_ok { LogOk memory.old log.old n × (n + 64 ≤ length log.old) }
-    requires inside { Inside (length memory.old) w × AllBelow log.old n (pins w.start) }
-    ensures memory { memory.new ≡ put_values t.now w f memory.old }
-    ensures noted { Noted memory.old log.old n 64 memory.new log.new result }
-    ensures twenty { length t.now ≡ Slots }
-{
-    store_values(memory, log, n, t, w, f)
 }
 
 // The writes of a block that fits and lies above all that are noted; how many entries the log then has. The registers are copied once, with
@@ -100,9 +81,8 @@ pub fn store_whole(memory: &mut [u8], log: &mut [u64], n: usize, r: &[u32; SLOTS
     ensures memory { memory.new ≡ block_put memory.old r.now p }
     ensures noted { Noted memory.old log.old n 64 memory.new log.new result }
 {
-    let f = p.flow;
     let w = crate::put_way(p);
     let mut t = *r;
     operand::put(&mut t, p.value / 65536, p.at);
-    store_copied(memory, log, n, &t, w, f)
+    store_values(memory, log, n, &t, w, p.flow)
 }

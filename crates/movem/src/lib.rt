@@ -43,76 +43,64 @@ pub fn first_spot(w: Way, f: Flow) -> Spot
 }
 
 // Where it stands after one bit of its list.
+#[tactic(auto, unfolding(crate::specs::Movem::next_spot))]
 pub fn next_spot(w: Way, d: Spot, f: Flow) -> Spot
     ensures { result ≡ next_spot w d f }
 {
     let on = d.list % 2 == 1;
-    let next = std::num::wrapping_add_u32(d.index, 1);
-    if on {
-        return Spot {
-            list: d.list / 2,
-            index: next,
-            at: std::num::wrapping_add_u32(d.at, w.step),
-            flow: f,
-        };
-    }
     Spot {
         list: d.list / 2,
-        index: next,
-        at: d.at,
+        index: d.index.wrapping_add(1),
+        at: if on { d.at.wrapping_add(w.step) } else { d.at },
         flow: f,
     }
 }
 
 // Register k is loaded if the list has it; a word is carried on to 32 bits.
+#[tactic(auto, unfolding(crate::specs::Movem::load_one))]
 fn load_one(r: &mut [u32; SLOTS], mem: &Parts, k: u32, w: Way, d: Spot) -> Spot
     ensures { record { held = r.new; spot = result } ≡ load_one (view_of (map (λ x. x.now) mem.now)) k w (record { held = r.old; spot = d }) }
 {
-    let f = d.flow;
     let on = d.list % 2 == 1;
     if on {
-        let y = bus::read_sized(mem, d.at, w.size, k, f);
-        let g = y.flow;
+        let y = bus::read_sized(mem, d.at, w.size, k, d.flow);
         operand::put(r, d.index, bits::sign_extended(y.value, w.size));
-        return next_spot(w, d, g);
+        return next_spot(w, d, y.flow);
     }
-    next_spot(w, d, f)
+    next_spot(w, d, d.flow)
 }
 
 fn load_list(r: &mut [u32; SLOTS], mem: &Parts, k: u32, w: Way, f: Flow) -> Spot
     ensures { record { held = r.new; spot = result } ≡ load_list r.old (view_of (map (λ x. x.now) mem.now)) k w f }
 {
     let mut d = first_spot(w, f);
-    let mut j: u32 = 0;
-    while j < 16 {
+    for _ in 0..16_u32 {
         d = load_one(r, mem, k, w, d);
-        j += 1;
     }
     d
 }
 
 // The address is formed once, before any load. (An)+, the only mode here that steps, leaves An at the final address.
+#[tactic(auto, unfolding(crate::specs::Movem::movem_to_registers))]
 pub fn movem_to_registers(r: &mut [u32; SLOTS], mem: &Parts, op: u32, f: Flow) -> Plan
     ensures { record { r = r.new; p = result } ≡ movem_to_registers r.old (view_of (map (λ x. x.now) mem.now)) op f }
 {
     let z = 1 + op / 64 % 2;
     let l = bus::next_word(mem, f);
-    let g = l.flow;
-    let q = operand::locate(r, mem, op / 8 % 8, op % 8, z, g);
-    let h = q.flow;
+    let q = operand::locate(r, mem, op / 8 % 8, op % 8, z, l.flow);
     let w = Way {
         size: z,
         list: l.value,
         start: q.at,
         step: 2 * z,
     };
-    let d = load_list(r, mem, q.access, w, h);
-    let e = d.flow;
+    let d = load_list(r, mem, q.access, w, q.flow);
     operand::put(r, q.reg, d.at);
-    plan::nothing(e)
+    plan::nothing(d.flow)
 }
 
 // MOVEM to -(An): the plan has An's first value, the bank its last.
+#[tactic(auto, unfolding(crate::specs::Movem::movem_down))]
 fn movem_down(r: &mut [u32; SLOTS], list: u32, op: u32, f: Flow) -> Plan
     ensures { record { r = r.new; p = result } ≡ movem_down r.old list op f }
 {
@@ -128,21 +116,20 @@ fn movem_down(r: &mut [u32; SLOTS], list: u32, op: u32, f: Flow) -> Plan
     )
 }
 
+#[tactic(auto, unfolding(crate::specs::Movem::movem_to_memory))]
 pub fn movem_to_memory(r: &mut [u32; SLOTS], mem: &Parts, op: u32, f: Flow) -> Plan
     ensures { record { r = r.new; p = result } ≡ movem_to_memory r.old (view_of (map (λ x. x.now) mem.now)) op f }
 {
     let l = bus::next_word(mem, f);
-    let g = l.flow;
     let down = op / 8 % 8 == codes::PREDECREMENT;
     if down {
-        return movem_down(r, l.value, op, g);
+        return movem_down(r, l.value, op, l.flow);
     }
-    let q = operand::locate(r, mem, op / 8 % 8, op % 8, 1 + op / 64 % 2, g);
-    let h = q.flow;
+    let q = operand::locate(r, mem, op / 8 % 8, op % 8, 1 + op / 64 % 2, l.flow);
     plan::writing(
         codes::BLOCK_UP + op / 64 % 2,
         q.at,
         l.value + 65536 * codes::NO_REGISTER,
-        h,
+        q.flow,
     )
 }

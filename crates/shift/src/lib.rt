@@ -17,6 +17,7 @@ struct Moving {
 }
 
 // By a kind: 0 arithmetic, 1 logical, 2 rotate with extend, else rotate.
+#[tactic(auto, unfolding(crate::specs::Shift::by_kind))]
 fn by_kind(k: u32, arithmetic: bool, logical: bool, extend: bool, rotate: bool) -> bool
     ensures { result ≡ by_kind k arithmetic logical extend rotate }
 {
@@ -28,6 +29,7 @@ fn by_kind(k: u32, arithmetic: bool, logical: bool, extend: bool, rotate: bool) 
     }
 }
 
+#[tactic(auto, unfolding(crate::specs::Shift::one_left))]
 fn one_left(t: Moving, k: u32, z: u32) -> Moving
     ensures { result ≡ one_left k z t }
 {
@@ -44,6 +46,7 @@ fn one_left(t: Moving, k: u32, z: u32) -> Moving
     }
 }
 
+#[tactic(auto, using(crate::proofs::ShiftLaws::right_bound), unfolding(crate::specs::Shift::one_right))]
 fn one_right(t: Moving, k: u32, z: u32) -> Moving
     ensures { result ≡ one_right k z t }
 {
@@ -59,6 +62,7 @@ fn one_right(t: Moving, k: u32, z: u32) -> Moving
     }
 }
 
+#[tactic(auto, unfolding(crate::specs::Shift::one_place))]
 fn one_place(t: Moving, k: u32, left: bool, z: u32) -> Moving
     ensures { result ≡ one_place k left z t }
 {
@@ -68,19 +72,19 @@ fn one_place(t: Moving, k: u32, left: bool, z: u32) -> Moving
     one_right(t, k, z)
 }
 
+#[tactic(auto, using(bits::proofs::BitsLaws::turns_start, bits::proofs::BitsLaws::turns_again, bits::proofs::BitsLaws::turns_end))]
 fn places(t: Moving, n: u32, k: u32, left: bool, z: u32) -> Moving
     ensures { result ≡ iter (one_place k left z) n t }
 {
     let mut m = t;
-    let mut i: u32 = 0;
-    while i < n {
+    for _ in 0..n {
         m = one_place(m, k, left, z);
-        i += 1;
     }
     m
 }
 
 // The low part of v of size z, moved n modulo 64 places to the left or to the right.
+#[tactic(auto, unfolding(crate::specs::Shift::shift))]
 pub fn shift(kind: u32, left: bool, v: u32, n: u32, z: u32, old: u32) -> flags::Flagged
     ensures { result ≡ shift kind left v n z old }
 {

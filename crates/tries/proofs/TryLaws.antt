@@ -5,10 +5,11 @@
 use Prim.Native.Nat.{ℕ, suc, ◌+◌, ◌-◌, ◌≤◌, ◌<◌}
 use native.Mathlib.Omega.{arith}
 use mathlib.Core.Path.{◌≡◌, sym, ap, ◌∙◌}
-use mathlib.Core.Bool.{Bool, true, false, not}
+use mathlib.Core.Bool.{Bool, true, false}
 use mathlib.Core.List.{List}
 use lib.Dec.{eqb}
-use borrow.Author.Tests.{eqb-true, eqb-false, not-true, not-false}
+use borrow.Author.Tests.{ne_eqb}
+use Rattle.std.proofs.Common.{eq-eqb, ◌≢◌}
 use Rattle.bus.specs.declared.Window.{Window}
 use Rattle.bus.specs.Bus.{Board}
 use Rattle.bank.specs.Bank.{sr_of, supervisor}
@@ -24,10 +25,6 @@ use Rattle.tries.specs.Tries.{TryCall, ended, trying, try_number, try_call, Back
 use Rattle.tries.specs.Promises.{TryPromise, BackPromise}
 
 -- ---- the steps of a try
--- an event that is not none is above 0
-pub loud_event : (e : ℕ) → not (eqb e 0) ≡ true → 1 ≤ e
-loud_event e t = let f = eqb-false e 0 (not-true (eqb e 0) t) in omega arith
-
 -- at the loop's head, n steps done: what is left gives the whole
 pub record Trying (board : Board) (b : ℕ) (s₀ m₀ j₀ : List ℕ) (mark₀ : ℕ) (s m j : List ℕ) (mark n : ℕ) : Type 0 where
   pub le : n ≤ b
@@ -37,9 +34,12 @@ pub trying_start : (board : Board) (b : ℕ) (s m j : List ℕ) (mark : ℕ) →
 trying_start board b s m j mark = record { le = omega arith; rest = (let e : b - 0 ≡ b = omega arith in rw e) }
 
 module _ {board : Board} {b : ℕ} {s₀ m₀ j₀ : List ℕ} {mark₀ : ℕ} {s m j : List ℕ} {mark n : ℕ} (i : Trying board b s₀ m₀ j₀ mark₀ s m j mark n) where
-  pub tries_spent : b ≤ n → ended 1 0 0 n s m j mark ≡ trying board b 0 s₀ m₀ j₀ mark₀
+  pub tries_spent : b ≤ n → ended 1 0 0 b s m j mark ≡ trying board b 0 s₀ m₀ j₀ mark₀
   unfolding trying
-  tries_spent h = let z : b - n ≡ 0 = omega arith in rw z at i.rest
+  tries_spent h =
+      let z : b - n ≡ 0 = omega arith in
+      let q : n ≡ b = omega (arith, i.le) in
+      let e = rw z at i.rest in cc (e, q)
 
   module _ (h : n < b) {s₁ m₁ j₁ : List ℕ} {a : StepAnswer} (p : StepPromise Keeping board s m 0 0 j mark s₁ m₁ j₁ a) where
     more : b - n ≡ suc (b - (n + 1))
@@ -54,50 +54,47 @@ module _ {board : Board} {b : ℕ} {s₀ m₀ j₀ : List ℕ} {mark₀ : ℕ} {
     event_is : a.event ≡ (step_call Keeping board s m 0 0 j mark).a.event
     event_is = ap (λ (x : StepAnswer). x.event) p.answer
 
-    zero_when : not (eqb a.number 0) ≡ false → eqb (step_call Keeping board s m 0 0 j mark).a.number 0 ≡ true
-    zero_when t = ap (λ (x : ℕ). eqb x 0) (sym number_is) ∙ not-false (eqb a.number 0) t
+    zero_when : a.number ≡ 0 → eqb (step_call Keeping board s m 0 0 j mark).a.number 0 ≡ true
+    zero_when t = ap (λ (x : ℕ). eqb x 0) (sym number_is) ∙ eq-eqb a.number 0 t
 
-    loud_when : not (eqb a.event 0) ≡ true → eqb (step_call Keeping board s m 0 0 j mark).a.event 0 ≡ false
-    loud_when t = ap (λ (x : ℕ). eqb x 0) (sym event_is) ∙ not-true (eqb a.event 0) t
+    loud_when : a.event ≢ 0 → eqb (step_call Keeping board s m 0 0 j mark).a.event 0 ≡ false
+    loud_when t = ap (λ (x : ℕ). eqb x 0) (sym event_is) ∙ ne_eqb a.event 0 t
 
-    pub tries_refused : not (eqb a.number 0) ≡ true → ended 5 a.number 0 n s₁ m₁ j₁ mark ≡ trying board b 0 s₀ m₀ j₀ mark₀
+    pub tries_refused : a.number ≢ 0 → ended 5 a.number 0 n s₁ m₁ j₁ mark ≡ trying board b 0 s₀ m₀ j₀ mark₀
     unfolding trying
     tries_refused t =
-        let f = not-true (eqb a.number 0) t in
-        let r = step_refused Keeping board s m 0 j mark 0 (λ z. eqb-false a.number 0 f (number_is ∙ z)) in
-        let g : eqb (step_call Keeping board s m 0 0 j mark).a.number 0 ≡ false = ap (λ (x : ℕ). eqb x 0) (sym number_is) ∙ f in
+        let r = step_refused Keeping board s m 0 j mark 0 (λ z. t (number_is ∙ z)) in
+        let g : eqb (step_call Keeping board s m 0 0 j mark).a.number 0 ≡ false = ap (λ (x : ℕ). eqb x 0) (sym number_is) ∙ ne_eqb a.number 0 t in
         let e : ended 5 (step_call Keeping board s m 0 0 j mark).a.number 0 n s m j mark ≡ trying board b 0 s₀ m₀ j₀ mark₀ = rw g at now_left in
         let es : s₁ ≡ s = p.slots ∙ ap (λ (c : StepCall). c.s) r in
         let em : m₁ ≡ m = p.memory ∙ ap (λ (c : StepCall). c.m) r in
         let ej : j₁ ≡ j = p.journal ∙ ap (λ (c : StepCall). c.j) r in
         cc (e, es, em, ej, number_is)
 
-    module _ (t : not (eqb a.number 0) ≡ false) where
-      pub tries_halts : eqb a.event 257 ≡ true → ended 4 0 0 (n + 1) s₁ m₁ j₁ a.mark ≡ trying board b 0 s₀ m₀ j₀ mark₀
+    module _ (t : a.number ≡ 0) where
+      pub tries_halts : a.event ≡ 257 → ended 4 0 0 (n + 1) s₁ m₁ j₁ a.mark ≡ trying board b 0 s₀ m₀ j₀ mark₀
       unfolding trying
       tries_halts u =
           let z = zero_when t in
-          let k : eqb (step_call Keeping board s m 0 0 j mark).a.event 257 ≡ true = ap (λ (x : ℕ). eqb x 257) (sym event_is) ∙ u in
-          let l : eqb (step_call Keeping board s m 0 0 j mark).a.event 0 ≡ false =
-          (let v = eqb-true a.event 257 u in ap (λ (x : ℕ). eqb x 0) (sym event_is ∙ v)) in
+          let k : eqb (step_call Keeping board s m 0 0 j mark).a.event 257 ≡ true = ap (λ (x : ℕ). eqb x 257) (sym event_is ∙ u) in
+          let l : eqb (step_call Keeping board s m 0 0 j mark).a.event 0 ≡ false = ap (λ (x : ℕ). eqb x 0) (sym event_is ∙ u) in
           let e = rw (z, l, k) at now_left in
           cc (e, p.slots, p.memory, p.journal, p.answer)
 
-      module _ (u : eqb a.event 257 ≡ false) where
-        pub tries_excepts : not (eqb a.event 0) ≡ true → ended 3 0 (a.event - 1) (n + 1) s₁ m₁ j₁ a.mark ≡ trying board b 0 s₀ m₀ j₀ mark₀
+      module _ (u : a.event ≢ 257) where
+        pub tries_excepts : a.event ≢ 0 → ended 3 0 (a.event - 1) (n + 1) s₁ m₁ j₁ a.mark ≡ trying board b 0 s₀ m₀ j₀ mark₀
         unfolding trying
         tries_excepts v =
             let z = zero_when t in
-            let k : eqb (step_call Keeping board s m 0 0 j mark).a.event 257 ≡ false = ap (λ (x : ℕ). eqb x 257) (sym event_is) ∙ u in
+            let k : eqb (step_call Keeping board s m 0 0 j mark).a.event 257 ≡ false = ap (λ (x : ℕ). eqb x 257) (sym event_is) ∙ ne_eqb a.event 257 u in
             let e = rw (z, loud_when v, k) at now_left in
             cc (e, p.slots, p.memory, p.journal, p.answer)
 
-      pub trying_again : not (eqb a.event 0) ≡ false → Trying board b s₀ m₀ j₀ mark₀ s₁ m₁ j₁ a.mark (n + 1)
+      pub trying_again : a.event ≡ 0 → Trying board b s₀ m₀ j₀ mark₀ s₁ m₁ j₁ a.mark (n + 1)
       unfolding trying
       trying_again v =
           let z = zero_when t in
-          let q : eqb (step_call Keeping board s m 0 0 j mark).a.event 0 ≡ true =
-          ap (λ (x : ℕ). eqb x 0) (sym event_is) ∙ not-false (eqb a.event 0) v in
+          let q : eqb (step_call Keeping board s m 0 0 j mark).a.event 0 ≡ true = ap (λ (x : ℕ). eqb x 0) (sym event_is ∙ v) in
           let e = rw (z, q) at now_left in
           record {
             le = omega arith;
@@ -106,15 +103,15 @@ module _ {board : Board} {b : ℕ} {s₀ m₀ j₀ : List ℕ} {mark₀ : ℕ} {
 
 -- ---- a whole try
 module _ (board : Board) (s m : List ℕ) (count : ℕ) (j : List ℕ) (mark number : ℕ) (e : number ≡ try_number board s m count j mark) where
-  pub try_refuses : not (eqb number 0) ≡ true → TryPromise board s m count j mark s m j (record { end = 5; number = number; vector = 0; steps = 0; mark = mark })
+  pub try_refuses : number ≢ 0 → TryPromise board s m count j mark s m j (record { end = 5; number = number; vector = 0; steps = 0; mark = mark })
   unfolding try_call
   try_refuses t =
-      let f : eqb (try_number board s m count j mark) 0 ≡ false = ap (λ (x : ℕ). eqb x 0) (sym e) ∙ not-true (eqb number 0) t in
+      let f : eqb (try_number board s m count j mark) 0 ≡ false = ap (λ (x : ℕ). eqb x 0) (sym e) ∙ ne_eqb number 0 t in
       record { slots = rw f; memory = rw f; journal = rw f; answer = rw f (cc e) }
 
-  module _ (t : not (eqb number 0) ≡ false) (b : Bool) (d : b ≡ supervisor (sr_of s)) where
+  module _ (t : number ≡ 0) (b : Bool) (d : b ≡ supervisor (sr_of s)) where
     passes : eqb (try_number board s m count j mark) 0 ≡ true
-    passes = ap (λ (x : ℕ). eqb x 0) (sym e) ∙ not-false (eqb number 0) t
+    passes = ap (λ (x : ℕ). eqb x 0) (sym e ∙ t)
 
     pub try_supervised : b ≡ true → TryPromise board s m count j mark s m j (record { end = 2; number = 0; vector = 0; steps = 0; mark = mark })
     unfolding try_call
@@ -150,9 +147,12 @@ module _ {board : Board} {old : Window} {b : ℕ} {s₀ m₀ j : List ℕ} {mark
   backed s₁ m₁ a e =
       record { slots = ap (λ (c : BackCall). c.s) e; memory = ap (λ (c : BackCall). c.m) e; answer = ap (λ (c : BackCall). c.a) e }
 
-  pub backs_all : b ≤ n → BackPromise board old s₀ m₀ j mark₀ b s m (record { number = 0; undone = n; mark = mark; lo = old.lo; hi = old.hi })
+  pub backs_all : b ≤ n → BackPromise board old s₀ m₀ j mark₀ b s m (record { number = 0; undone = b; mark = mark; lo = old.lo; hi = old.hi })
   unfolding backing
-  backs_all h = let z : b - n ≡ 0 = omega arith in backed s m _ (rw z at i.rest)
+  backs_all h =
+      let z : b - n ≡ 0 = omega arith in
+      let q : n ≡ b = omega (arith, i.le) in
+      let e = rw z at i.rest in backed s m _ (cc (e, q))
 
   module _ (h : n < b) {s₁ m₁ : List ℕ} {a : UndoAnswer} (p : UndoPromise board s m j mark s₁ m₁ a) where
     one_more : b - n ≡ suc (b - (n + 1))
@@ -164,22 +164,21 @@ module _ {board : Board} {old : Window} {b : ℕ} {s₀ m₀ j : List ℕ} {mark
     undo_number_is : a.number ≡ (undo_call board s m j mark).a.number
     undo_number_is = ap (λ (x : UndoAnswer). x.number) p.answer
 
-    pub backs_refused : not (eqb a.number 0) ≡ true
+    pub backs_refused : a.number ≢ 0
         → BackPromise board old s₀ m₀ j mark₀ b s₁ m₁ (record { number = a.number; undone = n; mark = mark; lo = board.window.lo; hi = board.window.hi })
     unfolding backing
     backs_refused t =
-        let f = not-true (eqb a.number 0) t in
-        let r = undo_refused board s m j mark (λ z. eqb-false a.number 0 f (undo_number_is ∙ z)) in
-        let g : eqb (undo_call board s m j mark).a.number 0 ≡ false = ap (λ (x : ℕ). eqb x 0) (sym undo_number_is) ∙ f in
+        let r = undo_refused board s m j mark (λ z. t (undo_number_is ∙ z)) in
+        let g : eqb (undo_call board s m j mark).a.number 0 ≡ false = ap (λ (x : ℕ). eqb x 0) (sym undo_number_is) ∙ ne_eqb a.number 0 t in
         let e = rw g at left_now in
         let es : s₁ ≡ s = p.slots ∙ ap (λ (c : UndoCall). c.s) r in
         let em : m₁ ≡ m = p.memory ∙ ap (λ (c : UndoCall). c.m) r in
         backed s₁ m₁ _ (cc (e, es, em, undo_number_is))
 
-    pub backing_again : not (eqb a.number 0) ≡ false → Backing board old b s₀ m₀ j mark₀ s₁ m₁ a.mark (n + 1)
+    pub backing_again : a.number ≡ 0 → Backing board old b s₀ m₀ j mark₀ s₁ m₁ a.mark (n + 1)
     unfolding backing
     backing_again t =
-        let g : eqb (undo_call board s m j mark).a.number 0 ≡ true = ap (λ (x : ℕ). eqb x 0) (sym undo_number_is) ∙ not-false (eqb a.number 0) t in
+        let g : eqb (undo_call board s m j mark).a.number 0 ≡ true = ap (λ (x : ℕ). eqb x 0) (sym undo_number_is ∙ t) in
         let e = rw g at left_now in
         record {
           le = omega arith;

@@ -13,6 +13,7 @@ use codes::SLOTS;
 use record::limits::LONGEST_RECORD;
 
 // Why a try ended: its steps are done; it started in supervisor state; its last step took an exception, or halted; a step was refused.
+// They stay numbers: `end` of TryAnswer is C's, `enum ibz_end` of c/ibezofanle.h. So are the refusals' numbers below: `enum ibz_number`.
 pub const SPENT: u32 = 1;
 
 pub const SUPERVISED: u32 = 2;
@@ -47,6 +48,7 @@ pub struct BackAnswer {
 }
 
 // The number of the refusal of a try's first step, or 0.
+#[tactic(auto, using(answers::proofs::NumberLaws::first_passes, answers::proofs::NumberLaws::first_refuses), unfolding(crate::specs::Tries::try_number))]
 fn try_number(
     slots: &[u32; SLOTS],
     win: Window,
@@ -62,23 +64,32 @@ fn try_number(
     if first != 0 {
         return first;
     }
-    let high = codes::MOST_STEPS < count;
-    if high {
+    if codes::MOST_STEPS < count {
         return 3;
     }
-    let past = journal.len() < mark;
-    if past {
+    if journal.len() < mark {
         return 4;
     }
-    let full = journal.len() - mark < LONGEST_RECORD;
-    if full {
+    if journal.len() - mark < LONGEST_RECORD {
         return 5;
     }
-    let halted = slots[codes::MODE] == codes::HALTED;
-    if halted {
+    if slots[codes::MODE] == codes::HALTED {
         return 6;
     }
     0
+}
+
+// A try that ended with neither a refusal's number nor a vector.
+fn ended(end: u32, steps: u32, mark: usize) -> TryAnswer
+    ensures { result ≡ record { end = end; number = 0; vector = 0; steps = steps; mark = mark } }
+{
+    TryAnswer {
+        end,
+        number: 0,
+        vector: 0,
+        steps,
+        mark,
+    }
 }
 
 // The steps of a try that nothing forbids: it ends at the first one that takes an exception, halts or is refused.
@@ -93,51 +104,28 @@ fn trying(
 ) -> TryAnswer
     ensures { record { s = slots.new; m = memory.new; j = journal.new; a = result } ≡ trying (board_of win rom.now) count 0 slots.old memory.old journal.old mark }
 {
-    let mut n: u32 = 0;
     let mut at = mark;
-    while n < count {
+    for n in 0..count {
         let a = keeping::step_keeping(slots, win, memory, rom, 0, 0, journal, at);
-        let refused = a.number != 0;
-        if refused {
+        if a.number != 0 {
             return TryAnswer {
-                end: REFUSED,
                 number: a.number,
-                vector: 0,
-                steps: n,
-                mark: at,
+                ..ended(REFUSED, n, at)
             };
         }
         at = a.mark;
-        n += 1;
-        let halted = a.event == codes::HALT_EVENT;
-        if halted {
-            return TryAnswer {
-                end: HALT,
-                number: 0,
-                vector: 0,
-                steps: n,
-                mark: at,
-            };
+        if a.event == codes::HALT_EVENT {
+            return ended(HALT, n + 1, at);
         }
-        let loud = a.event != codes::NO_EVENT;
-        if loud {
+        if a.event != codes::NO_EVENT {
             let vector = a.event - 1;
             return TryAnswer {
-                end: TAKEN_EXCEPTION,
-                number: 0,
                 vector,
-                steps: n,
-                mark: at,
+                ..ended(TAKEN_EXCEPTION, n + 1, at)
             };
         }
     }
-    TryAnswer {
-        end: SPENT,
-        number: 0,
-        vector: 0,
-        steps: n,
-        mark: at,
-    }
+    ended(SPENT, count, at)
 }
 
 // Tries what stands at PC: in the window, with level 0, up to a number of steps, the first exception or a refusal. No records are dropped.
@@ -153,25 +141,15 @@ pub fn try_pattern(
     ensures { TryPromise (board_of win rom.now) slots.old memory.old count journal.old mark slots.new memory.new journal.new result }
 {
     let number = try_number(slots, win, memory, rom, count, journal, mark);
-    let refused = number != 0;
-    if refused {
+    if number != 0 {
         return TryAnswer {
-            end: REFUSED,
             number,
-            vector: 0,
-            steps: 0,
-            mark,
+            ..ended(REFUSED, 0, mark)
         };
     }
     let sup = bank::supervisor(slots[codes::SR]);
     if sup {
-        return TryAnswer {
-            end: SUPERVISED,
-            number: 0,
-            vector: 0,
-            steps: 0,
-            mark,
-        };
+        return ended(SUPERVISED, 0, mark);
     }
     trying(slots, win, memory, rom, count, journal, mark)
 }
@@ -189,12 +167,10 @@ pub fn take_back(
 ) -> BackAnswer
     ensures { BackPromise (board_of win rom.now) old slots.old memory.old journal.now mark steps slots.new memory.new result }
 {
-    let mut n: u32 = 0;
     let mut at = mark;
-    while n < steps {
+    for n in 0..steps {
         let a = machine::undo(slots, win, memory, rom, journal, at);
-        let refused = a.number != 0;
-        if refused {
+        if a.number != 0 {
             return BackAnswer {
                 number: a.number,
                 undone: n,
@@ -204,11 +180,10 @@ pub fn take_back(
             };
         }
         at = a.mark;
-        n += 1;
     }
     BackAnswer {
         number: 0,
-        undone: n,
+        undone: steps,
         mark: at,
         lo: old.lo,
         hi: old.hi,
