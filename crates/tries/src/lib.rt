@@ -1,16 +1,18 @@
 // lib.rt - the pattern tryer: it tries a stranger's program in a window, says how that ended, and takes all back. No call has a `requires`.
 // Means: specs/Tries.antt, specs/Promises.antt.  Laws: proofs/TryLaws.antt, proofs/PromiseLaws.antt; the theorems stand in the crate tried.
-// Uses: codes, bus, bank, record, calls, answers, keeping, machine.  Source: [K7], [K10].
+// Uses: codes, bus, bank, record, refusals, calls, answers, keeping, machine.  Source: [K7], [K10].
 #![tactic(auto)]
 
 ghost use Rattle.std.specs.Prelude.{◌≡◌};
 ghost use Rattle.bus.specs.Bus.{board_of};
-ghost use Rattle.tries.specs.Tries.{trying, try_number};
+ghost use Rattle.refusals.specs.Refusals.{refusal_number, number_given};
+ghost use Rattle.tries.specs.Tries.{refused, trying, try_number};
 ghost use Rattle.tries.specs.Promises.{TryPromise, BackPromise};
 
 use bus::Window;
 use codes::SLOTS;
 use record::limits::LONGEST_RECORD;
+use refusals::Refusal;
 
 // Why a try ended: its steps are done; it started in supervisor state; its last step took an exception, or halted; a step was refused.
 pub const SPENT: u32 = 1;
@@ -35,6 +37,21 @@ pub struct TryAnswer {
     pub mark: usize,
 }
 
+impl TryAnswer {
+    // What refuses a try's first step.
+    pub fn refused(refusal: Refusal, mark: usize) -> TryAnswer
+        ensures { result ≡ record { end = refused; number = refusal_number refusal; vector = 0; steps = 0; mark = mark } }
+    {
+        TryAnswer {
+            end: REFUSED,
+            number: u32::from(refusal),
+            vector: 0,
+            steps: 0,
+            mark,
+        }
+    }
+}
+
 // What taking back answers: the refusal's number or 0, how many steps were undone, the mark, and the window then.
 #[repr(C)]
 #[derive(Clone, Copy)]
@@ -46,8 +63,8 @@ pub struct BackAnswer {
     pub hi: u32,
 }
 
-// The number of the refusal of a try's first step, or 0.
-fn try_number(
+// Whether a try's first step is refused.
+fn judge_try(
     slots: &[u32; SLOTS],
     win: Window,
     memory: &[u8],
@@ -55,30 +72,23 @@ fn try_number(
     count: u32,
     journal: &[u8],
     mark: usize,
-) -> u32
-    ensures { result ≡ try_number (board_of win rom.now) slots.now memory.now count journal.now mark }
+) -> Result<(), Refusal>
+    ensures { number_given result ≡ try_number (board_of win rom.now) slots.now memory.now count journal.now mark }
 {
-    let first = answers::first_number(slots, win, memory, rom);
-    if first != 0 {
-        return first;
+    answers::judge_first(slots, win, memory, rom)?;
+    if codes::MOST_STEPS < count {
+        return Err(Refusal::TooHigh);
     }
-    let high = codes::MOST_STEPS < count;
-    if high {
-        return 3;
+    if journal.len() < mark {
+        return Err(Refusal::Mark);
     }
-    let past = journal.len() < mark;
-    if past {
-        return 4;
+    if journal.len() - mark < LONGEST_RECORD {
+        return Err(Refusal::NoRoom);
     }
-    let full = journal.len() - mark < LONGEST_RECORD;
-    if full {
-        return 5;
+    if slots[codes::MODE] == codes::HALTED {
+        return Err(Refusal::Halted);
     }
-    let halted = slots[codes::MODE] == codes::HALTED;
-    if halted {
-        return 6;
-    }
-    0
+    Ok(())
 }
 
 // The steps of a try that nothing forbids: it ends at the first one that takes an exception, halts or is refused.
@@ -152,19 +162,10 @@ pub fn try_pattern(
 ) -> TryAnswer
     ensures { TryPromise (board_of win rom.now) slots.old memory.old count journal.old mark slots.new memory.new journal.new result }
 {
-    let number = try_number(slots, win, memory, rom, count, journal, mark);
-    let refused = number != 0;
-    if refused {
-        return TryAnswer {
-            end: REFUSED,
-            number,
-            vector: 0,
-            steps: 0,
-            mark,
-        };
+    if let Err(refusal) = judge_try(slots, win, memory, rom, count, journal, mark) {
+        return TryAnswer::refused(refusal, mark);
     }
-    let sup = bank::supervisor(slots[codes::SR]);
-    if sup {
+    if bank::supervisor(slots[codes::SR]) {
         return TryAnswer {
             end: SUPERVISED,
             number: 0,
