@@ -1,32 +1,32 @@
-// lib.rt - all of a call that takes no step: the numbers of the refusals, what a reset leaves, undo's answer.
-// Means: specs/Calls.antt of the crate calls.  Laws: proofs/NumberLaws.antt.
-// Uses: codes, bus, record, undo, exception, calls.  Source: [01 Calls and what they give back], [01 The journal], [K5], [K7], [K10].
+// lib.rt - all of a call that takes no step: whether it is refused and why, what a reset leaves, undo's answer.
+// Means: specs/Calls.antt of the crate calls, with the numbers of specs/Refusals.antt of refusals.  Laws: proofs/NumberLaws.antt.
+// Uses: codes, bus, record, refusals, undo, exception, calls.  Source: [01 Calls and what they give back], [01 The journal], [K5], [K7], [K10].
 #![tactic(auto)]
 
 ghost use Rattle.std.specs.Prelude.{◌≡◌, ◌≤◌, length};
 ghost use Rattle.bus.specs.Bus.{board_of};
+ghost use Rattle.refusals.specs.Refusals.{number_given};
 ghost use Rattle.calls.specs.Calls.{memory_fits, rom_fits, state_fits, window_end, window_fits, first_tests, reset_number, reset_slots, refused_slots, no_room, step_tests, run_number, undo_number, undo_answer};
 
 use bus::Window;
 use calls::{Manner, UndoAnswer};
 use codes::SLOTS;
 use record::limits::LONGEST_RECORD;
+use refusals::Refusal;
 
 // Whether memory is of a length that no call refuses.
 pub fn memory_fits(memory: &[u8]) -> bool
     ensures { result ≡ memory_fits memory.now }
 {
     let n = memory.len();
-    (n % 2 == 0) & (codes::LEAST_MEMORY <= n) & (n <= codes::MOST_MEMORY)
+    n % 2 == 0 && codes::LEAST_MEMORY <= n && n <= codes::MOST_MEMORY
 }
 
 // Whether SR and mode are ones that no call refuses.
 pub fn state_fits(slots: &[u32; SLOTS]) -> bool
     ensures { result ≡ state_fits slots.now }
 {
-    let mode = slots[codes::MODE];
-    let status = record::limits::valid_status(slots[codes::SR]);
-    status & (mode <= codes::HALTED)
+    record::limits::valid_status(slots[codes::SR]) && slots[codes::MODE] <= codes::HALTED
 }
 
 // Whether a ROM is one that no call refuses beside this memory.
@@ -34,65 +34,62 @@ fn rom_fits(rom: &[u8], memory: &[u8]) -> bool
     ensures { result ≡ rom_fits rom.now memory.now }
 {
     let n = rom.len();
-    let apart = (n == 0) | (memory.len() <= codes::ROM_START as usize);
-    (n % 2 == 0) & (n <= codes::MOST_ROM) & apart
+    n % 2 == 0 && n <= codes::MOST_ROM && (n == 0 || memory.len() <= codes::ROM_START as usize)
 }
 
 // Where what a window can show ends: where memory does, or, where there is one, the ROM.
 fn window_end(memory: &[u8], rom: &[u8]) -> usize
     ensures { result ≡ window_end rom.now memory.now }
 {
-    let none = rom.len() == 0;
-    if none {
-        return memory.len();
+    if rom.is_empty() {
+        memory.len()
+    } else {
+        codes::ROM_START as usize + rom.len()
     }
-    codes::ROM_START as usize + rom.len()
 }
 
 // Whether a window is one that no call refuses.
 fn window_fits(win: Window, memory: &[u8], rom: &[u8]) -> bool
     ensures { result ≡ window_fits (board_of win rom.now) memory.now }
 {
-    let end = window_end(memory, rom);
-    (win.lo <= win.hi) & (win.hi as usize <= end)
+    win.lo <= win.hi && win.hi as usize <= window_end(memory, rom)
 }
 
-// The number of the refusal that a reset gives, or 0: 1 or 12.
-pub fn reset_number(memory: &[u8], rom: &[u8]) -> u32
-    ensures { result ≡ reset_number memory.now rom.now }
+// Whether a reset is refused: by 1 or 12.
+pub fn judge_reset(memory: &[u8], rom: &[u8]) -> Result<(), Refusal>
+    ensures { number_given result ≡ reset_number memory.now rom.now }
 {
-    let fits = memory_fits(memory);
-    if !fits {
-        return 1;
+    if !memory_fits(memory) {
+        return Err(Refusal::Memory);
     }
-    let beside = rom_fits(rom, memory);
-    if !beside {
-        return 12;
+    if !rom_fits(rom, memory) {
+        return Err(Refusal::Rom);
     }
-    0
+    Ok(())
 }
 
-// The number of the refusal that step, run and undo judge first, or 0: 1, 12, 2 or 10.
-pub fn first_number(slots: &[u32; SLOTS], win: Window, memory: &[u8], rom: &[u8]) -> u32
-    ensures { result ≡ first_tests (board_of win rom.now) slots.now memory.now 0 }
+// What step, run and undo judge first: 1, 12, 2 and 10.
+pub fn judge_first(
+    slots: &[u32; SLOTS],
+    win: Window,
+    memory: &[u8],
+    rom: &[u8],
+) -> Result<(), Refusal>
+    ensures { number_given result ≡ first_tests (board_of win rom.now) slots.now memory.now 0 }
 {
-    let fits = memory_fits(memory);
-    if !fits {
-        return 1;
+    if !memory_fits(memory) {
+        return Err(Refusal::Memory);
     }
-    let beside = rom_fits(rom, memory);
-    if !beside {
-        return 12;
+    if !rom_fits(rom, memory) {
+        return Err(Refusal::Rom);
     }
-    let valid = state_fits(slots);
-    if !valid {
-        return 2;
+    if !state_fits(slots) {
+        return Err(Refusal::State);
     }
-    let within = window_fits(win, memory, rom);
-    if !within {
-        return 10;
+    if !window_fits(win, memory, rom) {
+        return Err(Refusal::Window);
     }
-    0
+    Ok(())
 }
 
 // SSP from address 0, PC from 4, SR $2700.
@@ -101,56 +98,20 @@ pub fn reset_slots(memory: &[u8]) -> [u32; SLOTS]
 {
     let ssp = bus::read_long_anywhere(memory, 0, codes::DATA_READ, exception::fresh(0, 0));
     let pc = bus::read_long_anywhere(memory, 4, codes::DATA_READ, exception::fresh(0, 0));
-    [
-        0,
-        0,
-        0,
-        0,
-        0,
-        0,
-        0,
-        0,
-        0,
-        0,
-        0,
-        0,
-        0,
-        0,
-        0,
-        0,
-        ssp.value,
-        pc.value,
-        codes::RESET_STATUS,
-        codes::RUNNING,
-    ]
+    let mut slots = [0; SLOTS];
+    slots[codes::SSP] = ssp.value;
+    slots[codes::PC] = pc.value;
+    slots[codes::SR] = codes::RESET_STATUS;
+    slots
 }
 
 // The halted state that a refused reset leaves.
 pub fn refused_slots() -> [u32; SLOTS]
     ensures { result ≡ refused_slots }
 {
-    [
-        0,
-        0,
-        0,
-        0,
-        0,
-        0,
-        0,
-        0,
-        0,
-        0,
-        0,
-        0,
-        0,
-        0,
-        0,
-        0,
-        0,
-        0,
-        0,
-        codes::HALTED,
-    ]
+    let mut slots = [0; SLOTS];
+    slots[codes::MODE] = codes::HALTED;
+    slots
 }
 
 // Whether no room for one more record can be had.
@@ -164,8 +125,8 @@ fn no_room(manner: Manner, journal: &[u8], mark: usize) -> bool
     }
 }
 
-// The number of a step's refusal, or 0: all but 8.
-pub fn step_number(
+// Whether a step is refused: by all but 8.
+pub fn judge_step(
     manner: Manner,
     slots: &[u32; SLOTS],
     win: Window,
@@ -174,34 +135,27 @@ pub fn step_number(
     level: u32,
     journal: &[u8],
     mark: usize,
-) -> u32
-    ensures { result ≡ step_tests manner (board_of win rom.now) slots.now memory.now level journal.now mark 0 }
+) -> Result<(), Refusal>
+    ensures { number_given result ≡ step_tests manner (board_of win rom.now) slots.now memory.now level journal.now mark 0 }
 {
-    let first = first_number(slots, win, memory, rom);
-    if first != 0 {
-        return first;
+    judge_first(slots, win, memory, rom)?;
+    if codes::TOP_LEVEL < level {
+        return Err(Refusal::TooHigh);
     }
-    let high = codes::TOP_LEVEL < level;
-    if high {
-        return 3;
+    if journal.len() < mark {
+        return Err(Refusal::Mark);
     }
-    let past = journal.len() < mark;
-    if past {
-        return 4;
+    if no_room(manner, journal, mark) {
+        return Err(Refusal::NoRoom);
     }
-    let full = no_room(manner, journal, mark);
-    if full {
-        return 5;
+    if slots[codes::MODE] == codes::HALTED {
+        return Err(Refusal::Halted);
     }
-    let halted = slots[codes::MODE] == codes::HALTED;
-    if halted {
-        return 6;
-    }
-    0
+    Ok(())
 }
 
-// The number of a run's refusal, or 0.
-pub fn run_number(
+// Whether a run is refused.
+pub fn judge_run(
     slots: &[u32; SLOTS],
     win: Window,
     memory: &[u8],
@@ -209,48 +163,38 @@ pub fn run_number(
     budget: u32,
     journal: &[u8],
     mark: usize,
-) -> u32
-    ensures { result ≡ run_number (board_of win rom.now) slots.now memory.now budget journal.now mark }
+) -> Result<(), Refusal>
+    ensures { number_given result ≡ run_number (board_of win rom.now) slots.now memory.now budget journal.now mark }
 {
-    let first = first_number(slots, win, memory, rom);
-    if first != 0 {
-        return first;
+    judge_first(slots, win, memory, rom)?;
+    if codes::MOST_STEPS < budget {
+        return Err(Refusal::TooHigh);
     }
-    let high = codes::MOST_STEPS < budget;
-    if high {
-        return 3;
+    if journal.len() < mark {
+        return Err(Refusal::Mark);
     }
-    let past = journal.len() < mark;
-    if past {
-        return 4;
-    }
-    0
+    Ok(())
 }
 
-// The number of an undo's refusal, or 0: all but 8.
-pub fn undo_number(
+// Whether an undo is refused: by all but 8.
+pub fn judge_undo(
     slots: &[u32; SLOTS],
     win: Window,
     memory: &[u8],
     rom: &[u8],
     journal: &[u8],
     mark: usize,
-) -> u32
-    ensures { result ≡ undo_number (board_of win rom.now) slots.now memory.now journal.now mark }
+) -> Result<(), Refusal>
+    ensures { number_given result ≡ undo_number (board_of win rom.now) slots.now memory.now journal.now mark }
 {
-    let first = first_number(slots, win, memory, rom);
-    if first != 0 {
-        return first;
+    judge_first(slots, win, memory, rom)?;
+    if journal.len() < mark {
+        return Err(Refusal::Mark);
     }
-    let past = journal.len() < mark;
-    if past {
-        return 4;
+    if mark == 0 {
+        return Err(Refusal::NothingToUndo);
     }
-    let empty = mark == 0;
-    if empty {
-        return 7;
-    }
-    0
+    Ok(())
 }
 
 // The answer of an undo that no other number refuses: 8 where the last record is not well formed, and so a is none.

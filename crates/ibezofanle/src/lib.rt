@@ -1,7 +1,7 @@
 // lib.rt - the calls from C: reset, step and run in both manners, undo, the tryer, with the state in a lent block of 80 bytes; the two
 // conversions of a journal; the part of memory or ROM. No `requires`.  Exported to C by crate ibezofanle_c; declared for C in c/ibezofanle.h.
 // Means: Calls and Promises of the crate block_calls, Promises of forms, Part of part, where the laws and the theorems stand.
-// Uses: bus, block, calls, block_calls, part, keeping, machine, tries, forms.  Source: [K1], [K2], [K5], [K7], [K8], [K10].
+// Uses: bus, refusals, block, calls, block_calls, part, keeping, machine, tries, forms.  Source: [K1], [K2], [K5], [K7], [K8], [K10].
 #![tactic(auto)]
 
 ghost use Rattle.bus.specs.Bus.{board_of};
@@ -16,22 +16,15 @@ use block::BLOCK_LENGTH;
 use bus::Window;
 use calls::{ResetAnswer, RunAnswer, StepAnswer, UndoAnswer};
 use forms::FormAnswer;
-use keeping::NO_CLOCKS;
+use refusals::Refusal;
 use tries::{BackAnswer, TryAnswer};
-
-// The refusal of a block that is not 80 bytes long.
-const NO_BLOCK: u32 = 9;
 
 // Reset. It does not write memory.
 pub fn ibz_reset(block: &mut [u8], memory: &[u8], rom: &[u8]) -> ResetAnswer
     ensures { IbzResetPromise block.old memory.now rom.now block.new result }
 {
     if block.len() != BLOCK_LENGTH {
-        return ResetAnswer {
-            number: NO_BLOCK,
-            lo: 0,
-            hi: 0,
-        };
+        return ResetAnswer::refused(Refusal::Block);
     }
     let mut slots = block::slots_in(block);
     let a = machine::reset(&mut slots, memory, rom);
@@ -55,14 +48,7 @@ pub fn ibz_step(
     ensures { IbzStepPromise Dropping block.old (board_of (record { lo = lo; hi = hi }) rom.now) memory.old level vector journal.old mark block.new memory.new journal.new result }
 {
     if block.len() != BLOCK_LENGTH {
-        return StepAnswer {
-            number: NO_BLOCK,
-            event: 0,
-            mark,
-            clocks: NO_CLOCKS,
-            moved: 0,
-            dropped: 0,
-        };
+        return StepAnswer::refused(Refusal::Block, mark);
     }
     let mut slots = block::slots_in(block);
     let win = Window { lo, hi };
@@ -85,15 +71,7 @@ pub fn ibz_run(
     ensures { IbzRunPromise Dropping block.old (board_of (record { lo = lo; hi = hi }) rom.now) memory.old budget stop journal.old mark block.new memory.new journal.new result }
 {
     if block.len() != BLOCK_LENGTH {
-        return RunAnswer {
-            number: NO_BLOCK,
-            reason: 0,
-            mark,
-            steps: 0,
-            clocks: NO_CLOCKS,
-            moved: 0,
-            dropped: 0,
-        };
+        return RunAnswer::refused(Refusal::Block, mark);
     }
     let mut slots = block::slots_in(block);
     let win = Window { lo, hi };
@@ -118,14 +96,7 @@ pub fn ibz_step_keeping(
     ensures { IbzStepPromise Keeping block.old (board_of (record { lo = lo; hi = hi }) rom.now) memory.old level vector journal.old mark block.new memory.new journal.new result }
 {
     if block.len() != BLOCK_LENGTH {
-        return StepAnswer {
-            number: NO_BLOCK,
-            event: 0,
-            mark,
-            clocks: NO_CLOCKS,
-            moved: 0,
-            dropped: 0,
-        };
+        return StepAnswer::refused(Refusal::Block, mark);
     }
     let mut slots = block::slots_in(block);
     let win = Window { lo, hi };
@@ -148,15 +119,7 @@ pub fn ibz_run_keeping(
     ensures { IbzRunPromise Keeping block.old (board_of (record { lo = lo; hi = hi }) rom.now) memory.old budget stop journal.old mark block.new memory.new journal.new result }
 {
     if block.len() != BLOCK_LENGTH {
-        return RunAnswer {
-            number: NO_BLOCK,
-            reason: 0,
-            mark,
-            steps: 0,
-            clocks: NO_CLOCKS,
-            moved: 0,
-            dropped: 0,
-        };
+        return RunAnswer::refused(Refusal::Block, mark);
     }
     let mut slots = block::slots_in(block);
     let win = Window { lo, hi };
@@ -179,10 +142,7 @@ pub fn ibz_undo(
     ensures { IbzUndoPromise block.old (board_of (record { lo = lo; hi = hi }) rom.now) memory.old journal.now mark block.new memory.new result }
 {
     if block.len() != BLOCK_LENGTH {
-        return UndoAnswer {
-            number: NO_BLOCK,
-            mark,
-        };
+        return UndoAnswer::refused(Refusal::Block, mark);
     }
     let mut slots = block::slots_in(block);
     let win = Window { lo, hi };
@@ -206,13 +166,7 @@ pub fn ibz_try(
     ensures { IbzTryPromise block.old (board_of (record { lo = lo; hi = hi }) rom.now) memory.old count journal.old mark block.new memory.new journal.new result }
 {
     if block.len() != BLOCK_LENGTH {
-        return TryAnswer {
-            end: tries::REFUSED,
-            number: NO_BLOCK,
-            vector: 0,
-            steps: 0,
-            mark,
-        };
+        return TryAnswer::refused(Refusal::Block, mark);
     }
     let mut slots = block::slots_in(block);
     let win = Window { lo, hi };
@@ -237,7 +191,7 @@ pub fn ibz_take_back(
 {
     if block.len() != BLOCK_LENGTH {
         return BackAnswer {
-            number: NO_BLOCK,
+            number: u32::from(Refusal::Block),
             undone: 0,
             mark,
             lo,

@@ -1,6 +1,6 @@
 // lib.rt - step and run in the manner that keeps all records: where the journal is full no step is taken. No call has a `requires`.
 // Means: Calls and Promises of the crate calls at Keeping, where the theorems stand.  Laws: proofs/CallLaws.antt, proofs/LoopLaws.antt.
-// Uses: codes, bits, bus, record, calls, answers, taken.  Source: [01 Calls and what they give back], [01 The journal], [K2], [K5], [K7], [K10].
+// Uses: codes, bits, bus, record, refusals, calls, answers, taken.  Source: [01 Calls and what they give back], [01 The journal], [K2], [K5], [K7], [K10].
 #![tactic(auto)]
 
 ghost use Rattle.std.specs.Prelude.{◌≡◌, true, ◌≤◌, length};
@@ -17,9 +17,6 @@ use calls::{Manner, RunAnswer, StepAnswer};
 use codes::SLOTS;
 use record::limits::{BYTE_LIMIT, LONGEST_RECORD};
 
-// The clocks of a call that is refused.
-pub const NO_CLOCKS: u32 = 0;
-
 pub fn step_keeping(
     slots: &mut [u32; SLOTS],
     win: Window,
@@ -32,7 +29,7 @@ pub fn step_keeping(
 ) -> StepAnswer
     ensures { StepPromise Keeping (board_of win rom.now) slots.old memory.old level vector journal.old mark slots.new memory.new journal.new result }
 {
-    let number = answers::step_number(
+    if let Err(refusal) = answers::judge_step(
         Manner::Keeping,
         slots,
         win,
@@ -41,30 +38,21 @@ pub fn step_keeping(
         level,
         journal,
         mark,
-    );
-    let good = number == 0;
-    if good {
-        let mut log = [0u64; BYTE_LIMIT];
-        return taken::step_taken(
-            slots,
-            win,
-            memory,
-            rom,
-            level,
-            bits::wide(vector),
-            journal,
-            mark,
-            &mut log,
-        );
+    ) {
+        return StepAnswer::refused(refusal, mark);
     }
-    StepAnswer {
-        number,
-        event: codes::NO_EVENT,
+    let mut log = [0u64; BYTE_LIMIT];
+    taken::step_taken(
+        slots,
+        win,
+        memory,
+        rom,
+        level,
+        bits::wide(vector),
+        journal,
         mark,
-        clocks: NO_CLOCKS,
-        moved: 0,
-        dropped: 0,
-    }
+        &mut log,
+    )
 }
 
 // The steps of a run: it ends at the first reason that holds. The budget is one that is not refused, so the sum of the clocks fits.
@@ -139,21 +127,11 @@ pub fn run_keeping(
 ) -> RunAnswer
     ensures { RunPromise Keeping (board_of win rom.now) slots.old memory.old budget stop journal.old mark slots.new memory.new journal.new result }
 {
-    let number = answers::run_number(slots, win, memory, rom, budget, journal, mark);
-    let good = number == 0;
-    if good {
-        let mut log = [0u64; BYTE_LIMIT];
-        return running(
-            slots, win, memory, rom, budget, stop, journal, mark, &mut log,
-        );
+    if let Err(refusal) = answers::judge_run(slots, win, memory, rom, budget, journal, mark) {
+        return RunAnswer::refused(refusal, mark);
     }
-    RunAnswer {
-        number,
-        reason: 0,
-        mark,
-        steps: 0,
-        clocks: NO_CLOCKS,
-        moved: 0,
-        dropped: 0,
-    }
+    let mut log = [0u64; BYTE_LIMIT];
+    running(
+        slots, win, memory, rom, budget, stop, journal, mark, &mut log,
+    )
 }

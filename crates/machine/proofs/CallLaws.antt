@@ -1,6 +1,6 @@
 -- CallLaws.antt - the laws that the calls cite: a reset done or refused, a step in the room that it finds or makes, an undo.
 -- reset_done, reset_misfit, and their answers; room_tells, step_may, step_promised, step_torn_promised, step_refused_promised; undo_promised.
--- Uses: bits, bus, record, undo, oldest, calls.
+-- Uses: bits, bus, record, undo, refusals, oldest, calls.
 use Prim.Native.Nat.{ℕ, ◌+◌, ◌-◌, ◌≤◌, ◌<◌, ◌^◌}
 use native.Mathlib.Omega.{arith}
 use mathlib.Core.Path.{◌≡◌, refl, sym, ap, ◌∙◌}
@@ -8,17 +8,23 @@ use mathlib.Core.Bool.{Bool, true, false, not}
 use mathlib.Core.List.{List}
 use lib.ListN.{length, get_or}
 use lib.Dec.{eqb}
-use borrow.Author.Tests.{eqb-true, eqb-false, ltb-false, lt-ltb, le-ltb, ne_eqb, not-true, not-false}
+use borrow.Author.Tests.{ltb-false, lt-ltb, le-ltb, ne_eqb, not-false}
+use Rattle.std.specs.Prelude.{Result, Ok, Err}
 use Rattle.bits.specs.Bits.{pick}
 use Rattle.bus.specs.Bus.{Board}
 use Rattle.record.specs.Limits.{longest_record}
 use Rattle.record.proofs.SizeLaws.{valid_bytes_from}
 use Rattle.std.specs.Prelude.{Option}
 use Rattle.undo.specs.Undo.{undo_of}
+use Rattle.refusals.specs.declared.Refusal.{Refusal}
+use Rattle.refusals.specs.declared.Refusal.TheVariants.{Torn}
+use Rattle.refusals.specs.Refusals.{refusal_number, number_given}
+use Rattle.refusals.proofs.NumberLaws.{refusal_some}
 use Rattle.oldest.specs.declared.Room.{Room}
 use Rattle.oldest.specs.Room.{make_room, RoomIs}
 use Rattle.oldest.proofs.RoomLaws.{Made, there, refused, on_the_way, dropping, made_cases}
 use Rattle.calls.specs.declared.Manner.TheVariants.{Dropping}
+use Rattle.calls.specs.declared.ResetAnswer.{ResetAnswer}
 use Rattle.calls.specs.declared.StepAnswer.{StepAnswer}
 use Rattle.calls.specs.declared.UndoAnswer.{UndoAnswer}
 use Rattle.calls.proofs.ValidLaws.{fits_inv}
@@ -28,30 +34,41 @@ use Rattle.calls.specs.Promises.{StepPromise, UndoPromise}
 use Rattle.calls.specs.Calls.{memory_fits, state_fits, reset_slots, refused_slots, reset_number, reset_call, reset_answer, no_room, torn_way, step_tests}
 use Rattle.calls.specs.Calls.{step_number, step_taken, step_with_room, step_call, undo_number, undo_answer, undo_call}
 
--- reset
-module _ (m rom : List ℕ) (x : ℕ) (e : x ≡ reset_number m rom) where
-  pub reset_done : (n : List ℕ) → eqb x 0 ≡ true → n ≡ reset_slots m → n ≡ reset_call m rom
-  unfolding reset_call
-  reset_done n t d = cc
+-- reset: k is its judgment
+module _ {A : Type 0} (m rom : List ℕ) (k : Result A Refusal) (e : number_given k ≡ reset_number m rom) where
+  module _ (y : A) (z : k ≡ Ok y) where
+    reset_zero : reset_number m rom ≡ 0
+    reset_zero = sym e ∙ ap number_given z
 
-  pub reset_done_answer : eqb x 0 ≡ true → record { number = 0; lo = 0; hi = length m } ≡ reset_answer m rom
-  unfolding reset_answer
-  reset_done_answer t = let z : reset_number m rom ≡ 0 = sym e ∙ eqb-true x 0 t in rw z
+    pub reset_done : (n : List ℕ) → n ≡ reset_slots m → n ≡ reset_call m rom
+    unfolding reset_call
+    reset_done n d = d ∙ rw reset_zero
 
-  -- a length that fits has 32 bits
-  pub reset_length : eqb x 0 ≡ true → length m < 2 ^ 32
-  unfolding reset_number
-  reset_length t =
-      let f = pick_zero (not (memory_fits m)) 0 _ (sym e ∙ eqb-true x 0 t) in
-      let g = fits_inv m (not-false (memory_fits m) f.0) in omega (arith, g.2)
+    pub reset_done_answer : record { number = 0; lo = 0; hi = length m } ≡ reset_answer m rom
+    unfolding reset_answer
+    reset_done_answer = rw reset_zero
 
-  pub reset_misfit : (n : List ℕ) → eqb x 0 ≡ false → n ≡ refused_slots → n ≡ reset_call m rom
-  unfolding reset_call
-  reset_misfit n t d = cc
+    -- a length that fits has 32 bits
+    pub reset_length : length m < 2 ^ 32
+    unfolding reset_number
+    reset_length =
+        let f = pick_zero (not (memory_fits m)) 0 _ reset_zero in
+        let g = fits_inv m (not-false (memory_fits m) f.0) in omega (arith, g.2)
 
-  pub reset_misfit_answer : eqb x 0 ≡ false → record { number = x; lo = 0; hi = 0 } ≡ reset_answer m rom
-  unfolding reset_answer
-  reset_misfit_answer t = let z : eqb (reset_number m rom) 0 ≡ false = ap (λ (n : ℕ). eqb n 0) (sym e) ∙ t in rw (e, z)
+  module _ (r : Refusal) (z : k ≡ Err r) where
+    reset_number_is : refusal_number r ≡ reset_number m rom
+    reset_number_is = ap number_given (sym z) ∙ e
+
+    reset_some : eqb (reset_number m rom) 0 ≡ false
+    reset_some = ap (λ (i : ℕ). eqb i 0) (sym reset_number_is) ∙ ne_eqb (refusal_number r) 0 (refusal_some r)
+
+    pub reset_misfit : (n : List ℕ) → n ≡ refused_slots → n ≡ reset_call m rom
+    unfolding reset_call
+    reset_misfit n d = d ∙ rw reset_some
+
+    pub reset_misfit_answer : (a : ResetAnswer) → a ≡ record { number = refusal_number r; lo = 0; hi = 0 } → a ≡ reset_answer m rom
+    unfolding reset_answer
+    reset_misfit_answer a q = q ∙ rw (reset_some, reset_number_is)
 
 -- what making room tells of the way back
 room_tells : (len : ℕ) (j : List ℕ) (mark : ℕ) → no_room Dropping j mark ≡ false → (make_room len j mark).a.number ≡ pick (torn_way Dropping len j mark) 8 0
@@ -76,25 +93,26 @@ room_as_it_was len j mark h = go (made_cases len j mark)
     go (on_the_way q r t e) = rw e
     go (dropping q r rs t e) = absurd (h (rw e))
 
--- the public step: k is its number before the way back is judged
-module _ (board : Board) (s m : List ℕ) (level vector : ℕ) (j : List ℕ) (mark k : ℕ) (e : k ≡ step_tests Dropping board s m level j mark 0) where
-  -- refused with the number n
-  refused_with : (n : ℕ) (j₁ : List ℕ) → step_number Dropping board s m level j mark ≡ n → (n ≡ 0 → ⊥) → j₁ ≡ j
-      → StepPromise Dropping board s m level vector j mark s m j₁ (record { number = n; event = 0; mark = mark; clocks = 0; moved = 0; dropped = 0 })
+-- the public step: k is its judgment before the way back is judged
+module _ {A : Type 0} (board : Board) (s m : List ℕ) (level vector : ℕ) (j : List ℕ) (mark : ℕ) (k : Result A Refusal) (e : number_given k ≡ step_tests Dropping board s m level j mark 0) where
+  -- refused by r
+  refused_by : (r : Refusal) (j₁ : List ℕ) (a : StepAnswer) → step_number Dropping board s m level j mark ≡ refusal_number r → j₁ ≡ j
+      → a ≡ record { number = refusal_number r; event = 0; mark = mark; clocks = 0; moved = 0; dropped = 0 } → StepPromise Dropping board s m level vector j mark s m j₁ a
   unfolding step_call
-  refused_with n j₁ is z same =
-      let y : eqb (step_number Dropping board s m level j mark) 0 ≡ false = rw is (ne_eqb n 0 z) in
-      record { slots = rw y; memory = rw y; journal = rw y same; answer = rw (y, is) }
+  refused_by r j₁ a is same q =
+      let y : eqb (step_number Dropping board s m level j mark) 0 ≡ false = rw is (ne_eqb (refusal_number r) 0 (refusal_some r)) in
+      record { slots = rw y; memory = rw y; journal = rw y same; answer = q ∙ rw (y, is) }
 
-  pub step_refused_promised : eqb k 0 ≡ false → StepPromise Dropping board s m level vector j mark s m j (record { number = k; event = 0; mark = mark; clocks = 0; moved = 0; dropped = 0 })
+  pub step_refused_promised : (r : Refusal) (a : StepAnswer) → k ≡ Err r → a ≡ record { number = refusal_number r; event = 0; mark = mark; clocks = 0; moved = 0; dropped = 0 }
+      → StepPromise Dropping board s m level vector j mark s m j a
   unfolding step_number
-  step_refused_promised z =
-      let y = eqb-false k 0 z in
-      refused_with k j (tests_stopped Dropping board s m level j mark (pick (torn_way Dropping (length m) j mark) 8 0) (λ q. y (e ∙ q)) ∙ sym e) y refl
+  step_refused_promised r a z q =
+      let n : refusal_number r ≡ step_tests Dropping board s m level j mark 0 = ap number_given (sym z) ∙ e in
+      refused_by r j a (tests_stopped Dropping board s m level j mark (pick (torn_way Dropping (length m) j mark) 8 0) (λ q. refusal_some r (n ∙ q)) ∙ sym n) refl q
 
-  module _ (z : eqb k 0 ≡ true) where
+  module _ (y : A) (z : k ≡ Ok y) where
     zero_first : step_tests Dropping board s m level j mark 0 ≡ 0
-    zero_first = sym e ∙ eqb-true k 0 z
+    zero_first = sym e ∙ ap number_given z
 
     pub step_inside : mark ≤ length j
     step_inside = (tests_inv Dropping board s m level j mark 0 zero_first).3
@@ -110,15 +128,25 @@ module _ (board : Board) (s m : List ℕ) (level vector : ℕ) (j : List ℕ) (m
       number_is : step_number Dropping board s m level j mark ≡ a.number
       number_is = judged ∙ sym (ap (λ (r : Room). r.number) room.answer)
 
-      pub step_torn_promised : not (eqb a.number 0) ≡ true
-          → StepPromise Dropping board s m level vector j mark s m j₁ (record { number = a.number; event = 0; mark = mark; clocks = 0; moved = 0; dropped = 0 })
-      step_torn_promised t =
-          let y = eqb-false a.number 0 (not-true (eqb a.number 0) t) in
-          refused_with a.number j₁ number_is y (room.journal ∙ room_as_it_was (length m) j mark (λ q. y (ap (λ (r : Room). r.number) room.answer ∙ q)))
+      -- the one refusal of room that is left is 8
+      torn_number : (a.number ≡ 0 → ⊥) → a.number ≡ 8
+      torn_number t =
+          let p : a.number ≡ pick (torn_way Dropping (length m) j mark) 8 0 =
+          ap (λ (r : Room). r.number) room.answer ∙ room_tells (length m) j mark (tests_inv Dropping board s m level j mark 0 zero_first).4 in
+          go (torn_way Dropping (length m) j mark) p
+        where
+          go : (b : Bool) → a.number ≡ pick b 8 0 → a.number ≡ 8
+          go true p = p
+          go false p = absurd (t p)
 
-      module _ (t : not (eqb a.number 0) ≡ false) where
+      pub step_torn_promised : (b : StepAnswer) → (a.number ≡ 0 → ⊥) → b ≡ record { number = 8; event = 0; mark = mark; clocks = 0; moved = 0; dropped = 0 }
+          → StepPromise Dropping board s m level vector j mark s m j₁ b
+      step_torn_promised b t q =
+          refused_by Torn j₁ b (number_is ∙ torn_number t) (room.journal ∙ room_as_it_was (length m) j mark (λ q. t (ap (λ (r : Room). r.number) room.answer ∙ q))) q
+
+      module _ (t : a.number ≡ 0) where
         accepted : step_number Dropping board s m level j mark ≡ 0
-        accepted = number_is ∙ eqb-true a.number 0 (not-false (eqb a.number 0) t)
+        accepted = number_is ∙ t
 
         pub step_may : ((i : ℕ) → get_or j i 0 < 256) → (memory_fits m ≡ true) × (a.mark + longest_record ≤ length j₁) × (state_fits s ≡ true)
         step_may bytes =
@@ -131,7 +159,7 @@ module _ (board : Board) (s m : List ℕ) (level vector : ℕ) (j : List ℕ) (m
 
         pub step_promised : (x : ℕ) → x ≡ vector → (s₂ m₂ j₂ : List ℕ) (b : StepAnswer) → s₂ ≡ (step_taken board s m level x j₁ a.mark).s → m₂ ≡ (step_taken board s m level x j₁ a.mark).m
             → j₂ ≡ (step_taken board s m level x j₁ a.mark).j → b ≡ (step_taken board s m level x j₁ a.mark).a
-            → StepPromise Dropping board s m level vector j mark s₂ m₂ j₂ (record { number = 0; event = b.event; mark = b.mark; clocks = b.clocks; moved = a.moved; dropped = a.dropped })
+            → StepPromise Dropping board s m level vector j mark s₂ m₂ j₂ (record { number = b.number; event = b.event; mark = b.mark; clocks = b.clocks; moved = a.moved; dropped = a.dropped })
         unfolding step_call step_with_room step_taken
         step_promised x d s₂ m₂ j₂ b p q r u =
             let y : eqb (step_number Dropping board s m level j mark) 0 ≡ true = rw accepted in
@@ -142,12 +170,15 @@ module _ (board : Board) (s m : List ℕ) (level vector : ℕ) (j : List ℕ) (m
               answer = rw (y, sym room.answer, u, d);
             }
 
--- the public undo
-module _ (board : Board) (s m j : List ℕ) (mark k : ℕ) (e : k ≡ undo_number board s m j mark) where
-  pub undo_promised : eqb k 0 ≡ true → (s₁ m₁ : List ℕ) (a : Option ℕ) (r : UndoAnswer) → undo_of s m j mark ≡ record { slots = s₁; memory = m₁; answer = a } → r ≡ undo_answer mark a → UndoPromise board s m j mark s₁ m₁ r
+-- the public undo: k is its judgment
+module _ {A : Type 0} (board : Board) (s m j : List ℕ) (mark : ℕ) (k : Result A Refusal) (e : number_given k ≡ undo_number board s m j mark) where
+  pub undo_promised : (y : A) → k ≡ Ok y → (s₁ m₁ : List ℕ) (a : Option ℕ) (r : UndoAnswer) → undo_of s m j mark ≡ record { slots = s₁; memory = m₁; answer = a } → r ≡ undo_answer mark a → UndoPromise board s m j mark s₁ m₁ r
   unfolding undo_call
-  undo_promised z s₁ m₁ a r u q = let y : undo_number board s m j mark ≡ 0 = sym e ∙ eqb-true k 0 z in record { slots = rw (y, u); memory = rw (y, u); answer = rw (y, u) q }
+  undo_promised y z s₁ m₁ a r u q = let y : undo_number board s m j mark ≡ 0 = sym e ∙ ap number_given z in record { slots = rw (y, u); memory = rw (y, u); answer = rw (y, u) q }
 
-  pub undo_refused_promised : eqb k 0 ≡ false → UndoPromise board s m j mark s m (record { number = k; mark = mark })
+  pub undo_refused_promised : (r : Refusal) (a : UndoAnswer) → k ≡ Err r → a ≡ record { number = refusal_number r; mark = mark } → UndoPromise board s m j mark s m a
   unfolding undo_call
-  undo_refused_promised z = let y : eqb (undo_number board s m j mark) 0 ≡ false = rw e at z in record { slots = rw y; memory = rw y; answer = rw (y, e) }
+  undo_refused_promised r a z q =
+      let n : refusal_number r ≡ undo_number board s m j mark = ap number_given (sym z) ∙ e in
+      let y : eqb (undo_number board s m j mark) 0 ≡ false = ap (λ (i : ℕ). eqb i 0) (sym n) ∙ ne_eqb (refusal_number r) 0 (refusal_some r) in
+      record { slots = rw y; memory = rw y; answer = q ∙ rw (y, n) }

@@ -1,20 +1,24 @@
 -- FirstLaws.antt - a run that drops records begins as one that keeps them all: until room is short the two are the same.
 -- first_steps; run_may, full_may; run_alike_promised, run_full_promised, run_refused_promised.
--- Uses: bits, bus, bank, record, oldest, step, calls, keeping.
+-- Uses: bits, bus, bank, record, refusals, oldest, step, calls, keeping.
 use Prim.Native.Nat.{ℕ, zero, suc, ◌+◌, ◌-◌, ◌*◌, ◌≤◌, ◌<◌}
 use native.Mathlib.Omega.{arith}
 use mathlib.Core.Path.{◌≡◌, refl, sym, ap, subst, ◌∙◌}
-use mathlib.Core.Bool.{Bool, true, false, ◌&&◌}
+use mathlib.Core.Bool.{Bool, true, false}
+use mathlib.Core.Logic.{◌⊎◌, inl, inr}
 use mathlib.Core.List.{List}
 use lib.ListN.{length}
 use lib.Dec.{ltb, leb, eqb}
-use borrow.Author.Tests.{eqb-true, leb-true, leb-false, ltb-false, le-ltb, lt-ltb, eq-eqb}
+use borrow.Author.Tests.{ltb-false, le-ltb, lt-ltb, ne_eqb}
+use Rattle.std.specs.Prelude.{Result, Ok, Err}
 use Rattle.codes.specs.Codes.{MostSteps}
-use Rattle.bits.proofs.BitsLaws.{and_left, and_right}
 use Rattle.bus.specs.Bus.{Board}
 use Rattle.bank.specs.Bank.{pc_of, mode_of}
 use Rattle.record.specs.Limits.{byte_limit, longest_record}
 use Rattle.step.specs.Steps.{most_clocks}
+use Rattle.refusals.specs.declared.Refusal.{Refusal}
+use Rattle.refusals.specs.Refusals.{refusal_number, number_given}
+use Rattle.refusals.proofs.NumberLaws.{refusal_some}
 use Rattle.oldest.proofs.RoomLaws.{room_when_there}
 use Rattle.calls.specs.declared.Manner.TheVariants.{Dropping, Keeping}
 use Rattle.calls.specs.declared.RunAnswer.{RunAnswer}
@@ -92,15 +96,18 @@ first_steps board (suc k) n c stop s m j mark =
             (rw (p, q, long, r, t, step_there board s m j mark room, none_moved, none_dropped)) (rw (p, q, r, t, step_kept board s m j mark, none_moved, none_dropped))
             (first_later board k n stop _ _ (ih (c + u.a.clocks) u.s u.m u.j u.a.mark))
 
--- ---- the public run: k is its number
-module _ (board : Board) (s m : List ℕ) (budget stop : ℕ) (j : List ℕ) (mark k : ℕ) (e : k ≡ run_number board s m budget j mark) where
-  pub run_refused_promised : eqb k 0 ≡ false → RunPromise Dropping board s m budget stop j mark s m j (record { number = k; reason = 0; mark = mark; steps = 0; clocks = 0; moved = 0; dropped = 0 })
+-- ---- the public run: k is its judgment
+module _ {A : Type 0} (board : Board) (s m : List ℕ) (budget stop : ℕ) (j : List ℕ) (mark : ℕ) (k : Result A Refusal) (e : number_given k ≡ run_number board s m budget j mark) where
+  pub run_refused_promised : (r : Refusal) (a : RunAnswer) → k ≡ Err r → a ≡ record { number = refusal_number r; reason = 0; mark = mark; steps = 0; clocks = 0; moved = 0; dropped = 0 } → RunPromise Dropping board s m budget stop j mark s m j a
   unfolding run_call
-  run_refused_promised z = let y : eqb (run_number board s m budget j mark) 0 ≡ false = rw e at z in record { slots = rw y; memory = rw y; journal = rw y; answer = rw (y, e) }
+  run_refused_promised r a z q =
+      let n : refusal_number r ≡ run_number board s m budget j mark = ap number_given (sym z) ∙ e in
+      let y : eqb (run_number board s m budget j mark) 0 ≡ false = ap (λ (i : ℕ). eqb i 0) (sym n) ∙ ne_eqb (refusal_number r) 0 (refusal_some r) in
+      record { slots = rw y; memory = rw y; journal = rw y; answer = q ∙ rw (y, n) }
 
-  module _ (z : eqb k 0 ≡ true) where
+  module _ (y : A) (z : k ≡ Ok y) where
     run_zero : run_number board s m budget j mark ≡ 0
-    run_zero = sym e ∙ eqb-true k 0 z
+    run_zero = sym e ∙ ap number_given z
 
     pub run_may : (memory_fits m ≡ true) × (mark ≤ length j) × (state_fits s ≡ true) × (budget ≤ MostSteps)
     run_may = let q = run_inv board s m budget j mark run_zero in (q.0, q.3, q.1, q.2)
@@ -142,39 +149,28 @@ module _ (board : Board) (s m : List ℕ) (budget stop : ℕ) (j : List ℕ) (ma
               let n : budget - (a.steps - 0) ≡ budget - a.steps = omega arith in
               d ∙ ap (λ (i : ℕ). running Dropping board i a.steps a.clocks 0 0 stop s₁ m₁ j₁ a.mark) n
 
-      -- what the steps on a full journal ask
-      pub full_may : (eqb a.reason 4 && leb longest_record (length j₁)) ≡ true → byte_limit ≤ length l
-          → ((memory_fits m₁ ≡ true) × (a.mark ≤ length j₁) × (byte_limit ≤ length l₁) × (state_fits s₁ ≡ true) × (longest_record ≤ length j₁))
-          × (((budget ≤ MostSteps) × (a.clocks ≤ most_clocks * a.steps))
-          × ((a.steps < budget) × (eqb (mode_of s₁) 2 ≡ false) × (eqb (mode_of s₁) 1 ≡ false) × (length j₁ - a.mark < longest_record)))
-      full_may w log =
-          let g = ends.goes in
-          let f = ends.full (eqb-true a.reason 4 (and_left (eqb a.reason 4) (leb longest_record (length j₁)) w)) in
-          let long = leb-true longest_record (length j₁) (and_right (eqb a.reason 4) (leb longest_record (length j₁)) w) in
-          ((g.memory, g.inside, omega (arith, g.same_log), g.state, long), ((run_may.3, ends.sum), (f.more, f.not_halted, f.not_stopped, f.short)))
+      -- what the steps on a full journal ask of budget and clocks
+      pub full_may : (budget ≤ MostSteps) × (a.clocks ≤ most_clocks * a.steps)
+      full_may = (run_may.3, ends.sum)
 
-      pub run_full_promised : (eqb a.reason 4 && leb longest_record (length j₁)) ≡ true → (s₂ m₂ j₂ : List ℕ) (b : RunAnswer)
-          → (let d = running Dropping board (budget - a.steps) a.steps a.clocks 0 0 stop s₁ m₁ j₁ a.mark in (s₂ ≡ d.s) × ((m₂ ≡ d.m) × ((j₂ ≡ d.j) × (b ≡ d.a))))
-          → RunPromise Dropping board s m budget stop j mark s₂ m₂ j₂ b
-      run_full_promised w s₂ m₂ j₂ b x =
-          let is = goes_on (eqb-true a.reason 4 (and_left (eqb a.reason 4) (leb longest_record (length j₁)) w)) in
-          promised s₂ m₂ j₂ b _ is x.0 x.1.0 x.1.1.0 x.1.1.1
+      pub run_full_promised : a.reason ≡ 4 → (s₂ m₂ j₂ : List ℕ) (b : RunAnswer) → let d = running Dropping board (budget - a.steps) a.steps a.clocks 0 0 stop s₁ m₁ j₁ a.mark in
+          s₂ ≡ d.s → m₂ ≡ d.m → j₂ ≡ d.j → b ≡ d.a → RunPromise Dropping board s m budget stop j mark s₂ m₂ j₂ b
+      run_full_promised w s₂ m₂ j₂ b x y z u = promised s₂ m₂ j₂ b _ (goes_on w) x y z u
 
       -- it ends there: another reason, or a journal that is too short altogether
-      ended_there : (eqb a.reason 4 && leb longest_record (length j₁)) ≡ false → running Dropping board budget 0 0 0 0 stop s m j mark ≡ record { s = s₁; m = m₁; j = j₁; a = a }
+      ended_there : (a.reason ≡ 4) × (length j₁ < longest_record) ⊎ (a.reason ≡ 4 → ⊥) → running Dropping board budget 0 0 0 0 stop s m j mark ≡ record { s = s₁; m = m₁; j = j₁; a = a }
       unfolding running
-      ended_there w = go here
+      ended_there w = go here w
         where
           go : First board budget 0 stop (running Dropping board budget 0 0 0 0 stop s m j mark) (record { s = s₁; m = m₁; j = j₁; a = a })
-              → running Dropping board budget 0 0 0 0 stop s m j mark ≡ record { s = s₁; m = m₁; j = j₁; a = a }
-          go (alike z d) = d
-          go (full is low d) =
-              let four : a.reason ≡ 4 = ap (λ (c : RunCall). c.a.reason) is in
-              let f = ends.full four in
+              → (a.reason ≡ 4) × (length j₁ < longest_record) ⊎ (a.reason ≡ 4 → ⊥) → running Dropping board budget 0 0 0 0 stop s m j mark ≡ record { s = s₁; m = m₁; j = j₁; a = a }
+          go (alike z d) w = d
+          go (full is low d) (inr w) = absurd (w (ap (λ (c : RunCall). c.a.reason) is))
+          go (full is low d) (inl w) =
+              let f = ends.full w.0 in
               let more : budget - a.steps ≡ suc (budget - (a.steps + 1)) = (let h = f.more in omega arith) in
-              let short : leb longest_record (length j₁) ≡ false = rw (eq-eqb a.reason 4 four) at w in
-              let small : ltb (length j₁) longest_record ≡ true = lt-ltb (length j₁) longest_record (leb-false longest_record (length j₁) short) in
-              goes_on four ∙ rw (more, f.not_halted, f.not_stopped, small) (sym is)
+              let small : ltb (length j₁) longest_record ≡ true = lt-ltb (length j₁) longest_record w.1 in
+              goes_on w.0 ∙ rw (more, f.not_halted, f.not_stopped, small) (sym is)
 
-      pub run_alike_promised : (eqb a.reason 4 && leb longest_record (length j₁)) ≡ false → RunPromise Dropping board s m budget stop j mark s₁ m₁ j₁ a
+      pub run_alike_promised : (a.reason ≡ 4) × (length j₁ < longest_record) ⊎ (a.reason ≡ 4 → ⊥) → RunPromise Dropping board s m budget stop j mark s₁ m₁ j₁ a
       run_alike_promised w = promised s₁ m₁ j₁ a _ (ended_there w) refl refl refl refl

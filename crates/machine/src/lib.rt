@@ -1,7 +1,7 @@
 // lib.rt - the calls of the machine: reset, step, run and undo, with their refusals. No call has a `requires`. Where the journal is full,
 // step and run drop its oldest records; those that keep all of them are step_keeping and run_keeping of the crate keeping.
 // Means: Calls and Promises of the crate calls, step and run at Dropping.  Laws: proofs/CallLaws.antt, proofs/FirstLaws.antt.
-// Uses: codes, bits, bus, record, undo, oldest, calls, answers, taken, keeping, full.  Source: [01 Calls and what they give back], [K2], [K5], [K7], [K10].
+// Uses: codes, bits, bus, record, undo, refusals, oldest, calls, answers, taken, keeping, full.  Source: [01 Calls and what they give back], [K2], [K5], [K7], [K10].
 #![tactic(auto)]
 
 ghost use Rattle.bus.specs.Bus.{board_of};
@@ -11,30 +11,22 @@ ghost use Rattle.calls.specs.Promises.{ResetPromise, StepPromise, RunPromise, Un
 use bus::Window;
 use calls::{Manner, ResetAnswer, RunAnswer, StepAnswer, UndoAnswer};
 use codes::SLOTS;
-use keeping::NO_CLOCKS;
 use record::limits::{BYTE_LIMIT, LONGEST_RECORD};
+use refusals::Refusal;
 
 // Reset. It does not write memory. The window that it gives is all of memory, with a ROM too.
 pub fn reset(slots: &mut [u32; SLOTS], memory: &[u8], rom: &[u8]) -> ResetAnswer
     ensures { ResetPromise memory.now rom.now slots.new result }
 {
-    let number = answers::reset_number(memory, rom);
-    let good = number == 0;
-    if good {
-        let n = answers::reset_slots(memory);
-        *slots = n;
-        return ResetAnswer {
-            number: 0,
-            lo: 0,
-            hi: memory.len() as u32,
-        };
+    if let Err(refusal) = answers::judge_reset(memory, rom) {
+        *slots = answers::refused_slots();
+        return ResetAnswer::refused(refusal);
     }
-    let n = answers::refused_slots();
-    *slots = n;
+    *slots = answers::reset_slots(memory);
     ResetAnswer {
-        number,
+        number: 0,
         lo: 0,
-        hi: 0,
+        hi: memory.len() as u32,
     }
 }
 
@@ -51,7 +43,7 @@ pub fn step(
 ) -> StepAnswer
     ensures { StepPromise Dropping (board_of win rom.now) slots.old memory.old level vector journal.old mark slots.new memory.new journal.new result }
 {
-    let number = answers::step_number(
+    if let Err(refusal) = answers::judge_step(
         Manner::Dropping,
         slots,
         win,
@@ -60,50 +52,29 @@ pub fn step(
         level,
         journal,
         mark,
-    );
-    let good = number == 0;
-    if good {
-        let size = taken::bytes(journal);
-        let room = oldest::make_room(journal, mark, memory.len());
-        let torn = room.number != 0;
-        if torn {
-            return StepAnswer {
-                number: room.number,
-                event: codes::NO_EVENT,
-                mark,
-                clocks: NO_CLOCKS,
-                moved: 0,
-                dropped: 0,
-            };
-        }
-        let mut log = [0u64; BYTE_LIMIT];
-        let a = taken::step_taken(
-            slots,
-            win,
-            memory,
-            rom,
-            level,
-            bits::wide(vector),
-            journal,
-            room.mark,
-            &mut log,
-        );
-        return StepAnswer {
-            number: 0,
-            event: a.event,
-            mark: a.mark,
-            clocks: a.clocks,
-            moved: room.moved,
-            dropped: room.dropped,
-        };
+    ) {
+        return StepAnswer::refused(refusal, mark);
     }
+    let room = oldest::make_room(journal, mark, memory.len());
+    if room.number != 0 {
+        return StepAnswer::refused(Refusal::Torn, mark);
+    }
+    let mut log = [0u64; BYTE_LIMIT];
+    let a = taken::step_taken(
+        slots,
+        win,
+        memory,
+        rom,
+        level,
+        bits::wide(vector),
+        journal,
+        room.mark,
+        &mut log,
+    );
     StepAnswer {
-        number,
-        event: codes::NO_EVENT,
-        mark,
-        clocks: NO_CLOCKS,
-        moved: 0,
-        dropped: 0,
+        moved: room.moved,
+        dropped: room.dropped,
+        ..a
     }
 }
 
@@ -120,30 +91,19 @@ pub fn run(
 ) -> RunAnswer
     ensures { RunPromise Dropping (board_of win rom.now) slots.old memory.old budget stop journal.old mark slots.new memory.new journal.new result }
 {
-    let number = answers::run_number(slots, win, memory, rom, budget, journal, mark);
-    let good = number == 0;
-    if good {
-        let mut log = [0u64; BYTE_LIMIT];
-        let a = keeping::running(
-            slots, win, memory, rom, budget, stop, journal, mark, &mut log,
+    if let Err(refusal) = answers::judge_run(slots, win, memory, rom, budget, journal, mark) {
+        return RunAnswer::refused(refusal, mark);
+    }
+    let mut log = [0u64; BYTE_LIMIT];
+    let a = keeping::running(
+        slots, win, memory, rom, budget, stop, journal, mark, &mut log,
+    );
+    if a.reason == 4 && LONGEST_RECORD <= journal.len() {
+        return full::running_full(
+            slots, win, memory, rom, budget, stop, journal, a.mark, a.steps, a.clocks, &mut log,
         );
-        let full = (a.reason == 4) & (LONGEST_RECORD <= journal.len());
-        if full {
-            return full::running_full(
-                slots, win, memory, rom, budget, stop, journal, a.mark, a.steps, a.clocks, &mut log,
-            );
-        }
-        return a;
     }
-    RunAnswer {
-        number,
-        reason: 0,
-        mark,
-        steps: 0,
-        clocks: NO_CLOCKS,
-        moved: 0,
-        dropped: 0,
-    }
+    a
 }
 
 pub fn undo(
@@ -156,11 +116,9 @@ pub fn undo(
 ) -> UndoAnswer
     ensures { UndoPromise (board_of win rom.now) slots.old memory.old journal.now mark slots.new memory.new result }
 {
-    let number = answers::undo_number(slots, win, memory, rom, journal, mark);
-    let good = number == 0;
-    if good {
-        let a = undo::undo(slots, memory, journal, mark);
-        return answers::undo_answer(mark, a);
+    if let Err(refusal) = answers::judge_undo(slots, win, memory, rom, journal, mark) {
+        return UndoAnswer::refused(refusal, mark);
     }
-    UndoAnswer { number, mark }
+    let a = undo::undo(slots, memory, journal, mark);
+    answers::undo_answer(mark, a)
 }

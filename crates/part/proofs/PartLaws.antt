@@ -1,67 +1,71 @@
--- PartLaws.antt - one law for each return of the functions of part; part_verdict: the number is given exactly when the table says (demand 1);
+-- PartLaws.antt - one law for each return of find and of part; part_verdict: the number is given exactly when the table says (demand 1);
 -- part_unique: any two answers that the promise allows are equal, the part's place too.
--- Uses: codes, bits, calls.  Source: [K10].
+-- Uses: codes, bits, refusals, calls.  Source: [K10].
 use Prim.Native.Nat.{ℕ, ◌+◌, ◌-◌, ◌<◌, ◌≤◌}
 use native.Mathlib.Omega.{arith}
 use mathlib.Core.Path.{◌≡◌, refl, sym, ap, ◌∙◌, subst}
 use mathlib.Core.Bool.{Bool, true, false, ◌&&◌, ◌||◌, not}
-use mathlib.Core.List.{List, []}
-use lib.ListN.{length, take, drop}
+use mathlib.Core.List.{List}
+use lib.ListN.{length}
 use lib.Dec.{leb, eqb}
-use borrow.Author.Tests.{leb-true, leb-false, le-leb, eqb-true, eqb-false, eq-eqb, not-true, not-false}
+use borrow.Author.Tests.{leb-true, le-leb, lt-leb, ne_eqb, not-true, not-false}
 use denote.Ref.{Bor}
+use Rattle.std.specs.Prelude.{Result, Ok, Err}
+use Rattle.std.specs.Result.{IsErrAnd}
+use Rattle.std.proofs.lemmas.Result.{err_from_is_err_and}
 use Rattle.codes.specs.Codes.{RomStart}
 use Rattle.bits.specs.Bits.{pick}
-use Rattle.bits.proofs.BitsLaws.{and_left, and_right, and_both, same_test}
+use Rattle.bits.proofs.BitsLaws.{and_left, and_right, and_both}
+use Rattle.refusals.specs.declared.Refusal.{Refusal}
+use Rattle.refusals.specs.Refusals.{refusal_number, number_given}
+use Rattle.refusals.proofs.NumberLaws.{refusal_some}
 use Rattle.calls.specs.Calls.{memory_fits, rom_fits, reset_number}
 use Rattle.calls.specs.Refusals.{zero_at_end}
 use Rattle.calls.proofs.RefusalLaws.{Verdict, verdict, given_pick, memory_given, rom_given}
-use Rattle.part.specs.Part.{lies, Where, in_memory, in_rom, refused, where_is, number_of, PartOf, Placed, PartPromise, Fits, part_table, SamePart}
-
--- ---- whether a part lies in a slice
-module _ (n a l : ℕ) where
-  pub lies_near : leb a n ≡ true → leb l (n - a) ≡ lies n a l
-  lies_near h =
-      same_test (leb l (n - a)) (leb (a + l) n)
-      (λ t. le-leb (a + l) n (omega (arith, leb-true a n h, leb-true l (n - a) t)))
-      (λ t. le-leb l (n - a) (omega (arith, leb-true (a + l) n t)))
-
-  pub lies_far : leb a n ≡ false → false ≡ lies n a l
-  lies_far h = same_test false (leb (a + l) n) (λ t. cc) (λ t. absurd (omega (arith, leb-false a n h, leb-true (a + l) n t)))
-
-  pub lies_end : (b : Bool) → b ≡ lies n a l → b ≡ true → a + l ≤ n
-  lies_end b e t = leb-true (a + l) n (sym e ∙ t)
-
-pub part_bytes : (s : List ℕ) (a l : ℕ) → take (a + l - a) (drop a s) ≡ take l (drop a s)
-part_bytes s a l = ap (λ (x : ℕ). take x (drop a s)) (let f : a + l - a ≡ l = omega arith in f)
+use Rattle.part.specs.Part.{lies, Where, in_memory, in_rom, refused, where_is, number_of, PartOf, Placed, Found, PartPromise, Fits, part_table, SamePart}
 
 -- ---- the returns
-module _ (m rom r : Bor (List ℕ)) (a l x : ℕ) (xe : x ≡ reset_number m.now rom.now) where
-  placed : (n : ℕ) (w : Where) → n ≡ number_of w → w ≡ where_is m.now rom.now a l → Placed w m rom l r → PartPromise m rom a l n r
-  placed n w d e h = record { number_is = d ∙ ap number_of e; part_is = subst (λ (w : Where). Placed w m rom l r) e h }
+module _ (m rom r : Bor (List ℕ)) (a l : ℕ) where
+  pub part_found : (number_of (where_is m.now rom.now a l) ≡ 0) × Placed (where_is m.now rom.now a l) m rom l r → PartPromise m rom a l 0 r
+  part_found h = record { number_is = sym h.0; part_is = h.1 }
 
-  pub part_refused : not (eqb x 0) ≡ true → PartOf m 0 0 r → PartPromise m rom a l x r
+  pub part_missing : (n : ℕ) → where_is m.now rom.now a l ≡ refused n → PartOf m 0 0 r → PartPromise m rom a l n r
+  part_missing n e h = record { number_is = ap number_of (sym e); part_is = subst (λ (w : Where). Placed w m rom l r) (sym e) h }
+
+-- k: the judgment of the lengths
+module _ {A : Type 0} (m rom : Bor (List ℕ)) (a l : ℕ) (k : Result A Refusal) (e : number_given k ≡ reset_number m.now rom.now) where
+  pub part_refused : (x : Refusal) (y : Result (Bor (List ℕ)) Refusal) → k ≡ Err x → IsErrAnd y (λ z. z ≡ x) → Found (where_is m.now rom.now a l) m rom l y
   unfolding where_is
-  part_refused t h = placed x (refused x) refl (let g = not-true (eqb x 0) t in cc) h
+  part_refused x y z t =
+      let p = err_from_is_err_and y t in
+      let n : refusal_number x ≡ reset_number m.now rom.now = ap number_given (sym z) ∙ e in
+      let f : eqb (reset_number m.now rom.now) 0 ≡ false = ap (λ (i : ℕ). eqb i 0) (sym n) ∙ ne_eqb (refusal_number x) 0 (refusal_some x) in
+      rw (p.1, p.2) (rw (f, n))
 
-  module _ (t : not (eqb x 0) ≡ false) (i : Bool) (ie : i ≡ lies (length m.now) a l) where
-    pub part_in_memory : i ≡ true → PartOf m a l r → PartPromise m rom a l 0 r
+-- where the lengths fit
+module _ (m rom : Bor (List ℕ)) (a l : ℕ) (z : 0 ≡ reset_number m.now rom.now) where
+  found : (w : Where) (r : Bor (List ℕ)) → number_of w ≡ 0 → w ≡ where_is m.now rom.now a l → Placed w m rom l r → Found (where_is m.now rom.now a l) m rom l (Ok r)
+  found w r n d h = (ap number_of (sym d) ∙ n, subst (λ (w : Where). Placed w m rom l r) d h)
+
+  zero : eqb (reset_number m.now rom.now) 0 ≡ true
+  zero = ap (λ (i : ℕ). eqb i 0) (sym z)
+
+  pub part_in_memory : (r : Bor (List ℕ)) → true ≡ lies (length m.now) a l → PartOf m a l r → Found (where_is m.now rom.now a l) m rom l (Ok r)
+  unfolding where_is
+  part_in_memory r i h = found (in_memory a) r refl (rw (zero, sym i)) h
+
+  module _ (i : false ≡ lies (length m.now) a l) where
+    pub part_in_rom : (r : Bor (List ℕ)) → RomStart ≤ a → true ≡ lies (length rom.now) (a - RomStart) l → PartOf rom (a - RomStart) l r → Found (where_is m.now rom.now a l) m rom l (Ok r)
     unfolding where_is
-    part_in_memory k h = placed 0 (in_memory a) refl (let g = not-false (eqb x 0) t in cc) h
+    part_in_rom r s c h = found (in_rom (a - RomStart)) r refl (rw (zero, sym i, le-leb RomStart a s, sym c)) h
 
-    module _ (k : i ≡ false) where
-      pub part_in_rom : (c : Bool) → leb RomStart a ≡ true → c ≡ lies (length rom.now) (a - RomStart) l → c ≡ true → PartOf rom (a - RomStart) l r
-          → PartPromise m rom a l 0 r
-      unfolding where_is
-      part_in_rom c s e d h = placed 0 (in_rom (a - RomStart)) refl (let g = not-false (eqb x 0) t in cc) h
+    pub part_beyond : RomStart ≤ a → false ≡ lies (length rom.now) (a - RomStart) l → where_is m.now rom.now a l ≡ refused 13
+    unfolding where_is
+    part_beyond s c = rw (zero, sym i, le-leb RomStart a s, sym c)
 
-      pub part_beyond : (c : Bool) → leb RomStart a ≡ true → c ≡ lies (length rom.now) (a - RomStart) l → c ≡ false → PartOf m 0 0 r → PartPromise m rom a l 13 r
-      unfolding where_is
-      part_beyond c s e d h = placed 13 (refused 13) refl (let g = not-false (eqb x 0) t in cc) h
-
-      pub part_below : leb RomStart a ≡ false → PartOf m 0 0 r → PartPromise m rom a l 13 r
-      unfolding where_is
-      part_below s h = placed 13 (refused 13) refl (let g = not-false (eqb x 0) t in cc) h
+    pub part_below : a < RomStart → where_is m.now rom.now a l ≡ refused 13
+    unfolding where_is
+    part_below s = rw (zero, sym i, lt-leb RomStart a s)
 
 -- ---- any two answers that the promise allows are equal: the number, where the part points, and what it shows
 same_part : (s r t : Bor (List ℕ)) (a l : ℕ) → PartOf s a l r → PartOf s a l t → SamePart r t

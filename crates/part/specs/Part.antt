@@ -1,10 +1,12 @@
 -- Part.antt - the part of memory or of ROM that holds an address and a length, for the fault page: where it is, its number, all that is promised.
 -- Not here: refusals 1 and 12, which are a reset's (Calls.antt of the crate calls). The window plays no role.
 -- Laws: proofs/PartLaws.antt.  Source: [K10], [01 How much each promise says].
-use Rattle.std.specs.Prelude.{ℕ, ◌+◌, ◌-◌, ◌≤◌, ◌≡◌, Bool, ◌&&◌, List, [], ◌∷◌, length, take, drop, leb, eqb}
+use Rattle.std.specs.Prelude.{ℕ, ◌+◌, ◌-◌, ◌≤◌, ◌≡◌, Bool, ◌&&◌, List, [], ◌∷◌, length, take, drop, leb, eqb, Result, Ok, Err}
 use Rattle.std.specs.Borrow.{Bor}
 use Rattle.codes.specs.Codes.{RomStart}
 use Rattle.bits.specs.Bits.{pick}
+use Rattle.refusals.specs.declared.Refusal.{Refusal}
+use Rattle.refusals.specs.Refusals.{refusal_number}
 use Rattle.calls.specs.Calls.{reset_number}
 use Rattle.calls.specs.Refusals.{Line, memory_line, rom_line}
 
@@ -43,6 +45,11 @@ abbrev pub Placed : Where → Bor (List ℕ) → Bor (List ℕ) → ℕ → Bor 
 Placed (in_memory place) m rom many r = PartOf m place many r
 Placed (in_rom place) m rom many r = PartOf rom place many r
 Placed (refused n) m rom many r = PartOf m 0 0 r
+
+-- what is found: the part, where it is said to be, or the refusal that is given  [K10]
+abbrev pub Found : Where → Bor (List ℕ) → Bor (List ℕ) → ℕ → Result (Bor (List ℕ)) Refusal → Type 0
+Found w m rom many (Ok r) = (number_of w ≡ 0) × Placed w m rom many r
+Found w m rom many (Err refusal) = w ≡ refused (refusal_number refusal)
 
 -- all that the call promises: its number, and the very part  [K10] [01 How much each promise says]
 pub record PartPromise (m rom : Bor (List ℕ)) (address many number : ℕ) (r : Bor (List ℕ)) : Type 0 where

@@ -1,7 +1,7 @@
 -- TryLaws.antt - the loops of the tryer: what is left of a try, or of taking back, done now, gives the whole one's answer.
 -- * Trying, trying_start, trying_again; tries_spent, -refused, -halts, -excepts. try_refuses, try_supervised, try_goes: the returns of try_pattern.
 -- * Backing, backing_start, backing_again; backs_all, backs_refused.
--- Uses: bits, bank, calls.  Source: [K7].
+-- Uses: bits, bank, refusals, calls.  Source: [K7].
 use Prim.Native.Nat.{ℕ, suc, ◌+◌, ◌-◌, ◌≤◌, ◌<◌}
 use native.Mathlib.Omega.{arith}
 use mathlib.Core.Path.{◌≡◌, sym, ap, ◌∙◌}
@@ -9,10 +9,14 @@ use mathlib.Core.Bool.{Bool, true, false}
 use mathlib.Core.List.{List}
 use lib.Dec.{eqb}
 use borrow.Author.Tests.{ne_eqb}
+use Rattle.std.specs.Prelude.{Result, Ok, Err}
 use Rattle.std.proofs.Common.{eq-eqb, ◌≢◌}
 use Rattle.bus.specs.declared.Window.{Window}
 use Rattle.bus.specs.Bus.{Board}
 use Rattle.bank.specs.Bank.{sr_of, supervisor}
+use Rattle.refusals.specs.declared.Refusal.{Refusal}
+use Rattle.refusals.specs.Refusals.{refusal_number, number_given}
+use Rattle.refusals.proofs.NumberLaws.{refusal_some}
 use Rattle.calls.specs.declared.Manner.TheVariants.{Keeping}
 use Rattle.calls.specs.declared.StepAnswer.{StepAnswer}
 use Rattle.calls.specs.declared.UndoAnswer.{UndoAnswer}
@@ -102,16 +106,17 @@ module _ {board : Board} {b : ℕ} {s₀ m₀ j₀ : List ℕ} {mark₀ : ℕ} {
           }
 
 -- ---- a whole try
-module _ (board : Board) (s m : List ℕ) (count : ℕ) (j : List ℕ) (mark number : ℕ) (e : number ≡ try_number board s m count j mark) where
-  pub try_refuses : number ≢ 0 → TryPromise board s m count j mark s m j (record { end = 5; number = number; vector = 0; steps = 0; mark = mark })
+module _ {A : Type 0} (board : Board) (s m : List ℕ) (count : ℕ) (j : List ℕ) (mark : ℕ) (k : Result A Refusal) (e : number_given k ≡ try_number board s m count j mark) where
+  pub try_refuses : (r : Refusal) (a : TryAnswer) → k ≡ Err r → a ≡ record { end = 5; number = refusal_number r; vector = 0; steps = 0; mark = mark } → TryPromise board s m count j mark s m j a
   unfolding try_call
-  try_refuses t =
-      let f : eqb (try_number board s m count j mark) 0 ≡ false = ap (λ (x : ℕ). eqb x 0) (sym e) ∙ ne_eqb number 0 t in
-      record { slots = rw f; memory = rw f; journal = rw f; answer = rw f (cc e) }
+  try_refuses r a z q =
+      let n : refusal_number r ≡ try_number board s m count j mark = ap number_given (sym z) ∙ e in
+      let f : eqb (try_number board s m count j mark) 0 ≡ false = ap (λ (x : ℕ). eqb x 0) (sym n) ∙ ne_eqb (refusal_number r) 0 (refusal_some r) in
+      record { slots = rw f; memory = rw f; journal = rw f; answer = q ∙ rw (f, n) }
 
-  module _ (t : number ≡ 0) (b : Bool) (d : b ≡ supervisor (sr_of s)) where
+  module _ (y : A) (z : k ≡ Ok y) (b : Bool) (d : b ≡ supervisor (sr_of s)) where
     passes : eqb (try_number board s m count j mark) 0 ≡ true
-    passes = ap (λ (x : ℕ). eqb x 0) (sym e ∙ t)
+    passes = ap (λ (x : ℕ). eqb x 0) (sym e ∙ ap number_given z)
 
     pub try_supervised : b ≡ true → TryPromise board s m count j mark s m j (record { end = 2; number = 0; vector = 0; steps = 0; mark = mark })
     unfolding try_call

@@ -1,16 +1,18 @@
 // lib.rt - the pattern tryer: it tries a stranger's program in a window, says how that ended, and takes all back. No call has a `requires`.
 // Means: specs/Tries.antt, specs/Promises.antt.  Laws: proofs/TryLaws.antt, proofs/PromiseLaws.antt; the theorems stand in the crate tried.
-// Uses: codes, bus, bank, record, calls, answers, keeping, machine.  Source: [K7], [K10].
+// Uses: codes, bus, bank, record, refusals, calls, answers, keeping, machine.  Source: [K7], [K10].
 #![tactic(auto)]
 
 ghost use Rattle.std.specs.Prelude.{◌≡◌};
 ghost use Rattle.bus.specs.Bus.{board_of};
-ghost use Rattle.tries.specs.Tries.{trying, try_number};
+ghost use Rattle.refusals.specs.Refusals.{refusal_number, number_given};
+ghost use Rattle.tries.specs.Tries.{refused, trying, try_number};
 ghost use Rattle.tries.specs.Promises.{TryPromise, BackPromise};
 
 use bus::Window;
 use codes::SLOTS;
 use record::limits::LONGEST_RECORD;
+use refusals::Refusal;
 
 // Why a try ended: its steps are done; it started in supervisor state; its last step took an exception, or halted; a step was refused.
 // They stay numbers: `end` of TryAnswer is C's, `enum ibz_end` of c/ibezofanle.h. So are the refusals' numbers below: `enum ibz_number`.
@@ -36,6 +38,21 @@ pub struct TryAnswer {
     pub mark: usize,
 }
 
+impl TryAnswer {
+    // What refuses a try's first step.
+    pub fn refused(refusal: Refusal, mark: usize) -> TryAnswer
+        ensures { result ≡ record { end = refused; number = refusal_number refusal; vector = 0; steps = 0; mark = mark } }
+    {
+        TryAnswer {
+            end: REFUSED,
+            number: u32::from(refusal),
+            vector: 0,
+            steps: 0,
+            mark,
+        }
+    }
+}
+
 // What taking back answers: the refusal's number or 0, how many steps were undone, the mark, and the window then.
 #[repr(C)]
 #[derive(Clone, Copy)]
@@ -47,9 +64,8 @@ pub struct BackAnswer {
     pub hi: u32,
 }
 
-// The number of the refusal of a try's first step, or 0.
-#[tactic(auto, using(answers::proofs::NumberLaws::first_passes, answers::proofs::NumberLaws::first_refuses), unfolding(crate::specs::Tries::try_number))]
-fn try_number(
+// Whether a try's first step is refused.
+fn judge_try(
     slots: &[u32; SLOTS],
     win: Window,
     memory: &[u8],
@@ -57,26 +73,23 @@ fn try_number(
     count: u32,
     journal: &[u8],
     mark: usize,
-) -> u32
-    ensures { result ≡ try_number (board_of win rom.now) slots.now memory.now count journal.now mark }
+) -> Result<(), Refusal>
+    ensures { number_given result ≡ try_number (board_of win rom.now) slots.now memory.now count journal.now mark }
 {
-    let first = answers::first_number(slots, win, memory, rom);
-    if first != 0 {
-        return first;
-    }
+    answers::judge_first(slots, win, memory, rom)?;
     if codes::MOST_STEPS < count {
-        return 3;
+        return Err(Refusal::TooHigh);
     }
     if journal.len() < mark {
-        return 4;
+        return Err(Refusal::Mark);
     }
     if journal.len() - mark < LONGEST_RECORD {
-        return 5;
+        return Err(Refusal::NoRoom);
     }
     if slots[codes::MODE] == codes::HALTED {
-        return 6;
+        return Err(Refusal::Halted);
     }
-    0
+    Ok(())
 }
 
 // A try that ended with neither a refusal's number nor a vector.
@@ -140,15 +153,10 @@ pub fn try_pattern(
 ) -> TryAnswer
     ensures { TryPromise (board_of win rom.now) slots.old memory.old count journal.old mark slots.new memory.new journal.new result }
 {
-    let number = try_number(slots, win, memory, rom, count, journal, mark);
-    if number != 0 {
-        return TryAnswer {
-            number,
-            ..ended(REFUSED, 0, mark)
-        };
+    if let Err(refusal) = judge_try(slots, win, memory, rom, count, journal, mark) {
+        return TryAnswer::refused(refusal, mark);
     }
-    let sup = bank::supervisor(slots[codes::SR]);
-    if sup {
+    if bank::supervisor(slots[codes::SR]) {
         return ended(SUPERVISED, 0, mark);
     }
     trying(slots, win, memory, rom, count, journal, mark)

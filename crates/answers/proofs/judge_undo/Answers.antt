@@ -1,0 +1,20 @@
+use Rattle.std.proofs.Common.{rules}
+use Rattle.answers.proofs.NumberLaws.{first_refuses, first_passes}
+use Rattle.calls.specs.Calls.{undo_number}
+use Rattle.answers.proofs.judge_undo.Goals as goal
+
+pub returns-in_err-judge_first : goal.returns-in_err-judge_first
+unfolding undo_number
+returns-in_err-judge_first c = first_refuses _ _ _ _ _ c.judge_first.ensures _ _ (cc) c.from_residual.ensures.1
+
+pub returns-then-journal-mark : goal.returns-then-journal-mark
+unfolding undo_number
+returns-then-journal-mark c = search (first_passes, rules)
+
+pub returns-then-mark-eq0 : goal.returns-then-mark-eq0
+unfolding undo_number
+returns-then-mark-eq0 c = search (first_passes, rules)
+
+pub returns : goal.returns
+unfolding undo_number
+returns c = search (first_passes, rules)
