@@ -117,13 +117,12 @@ impl Suite for Forms {
 
     // A line that is no case, or too long, is skipped.
     fn try_line(&mut self, line: Line<'_>) -> io::Result<Finding<Difference>> {
-        if !line.is_whole {
-            return Ok(Finding::Skipped);
-        }
-        Ok(
+        let found = if line.is_whole {
             self.try_case(line.text)
-                .map_or(Finding::Skipped, Finding::from),
-        )
+        } else {
+            None
+        };
+        Ok(found.map_or(Finding::Skipped, Finding::from))
     }
 }
 
