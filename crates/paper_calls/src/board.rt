@@ -2,7 +2,7 @@
 // Means: nothing; proved safe.
 // Uses: codes, bus, calls, keeping, machine, compare.  Source: [01 Set down and proved].
 use bus::Window;
-use calls::{RunAnswer, StepAnswer, UndoAnswer};
+use calls::{ResetAnswer, RunAnswer, StepAnswer, UndoAnswer};
 use codes::SLOTS;
 use compare::{same, same_slots};
 use std::io;
@@ -46,33 +46,20 @@ pub const STALE: State = State {
 };
 
 pub const STALE_RUNNING: State = State {
-    d0: 1,
-    d1: 1,
-    usp: 0,
-    ssp: 1,
-    pc: 1,
-    sr: 1,
     mode: codes::RUNNING,
+    ..STALE
 };
 
 pub const RESET: State = State {
-    d0: 0,
-    d1: 0,
-    usp: 0,
     ssp: 0,
     pc: 0,
-    sr: 0x2700,
-    mode: codes::RUNNING,
+    ..READY
 };
 
 pub const REFUSED: State = State {
-    d0: 0,
-    d1: 0,
-    usp: 0,
-    ssp: 0,
-    pc: 0,
     sr: 0,
     mode: codes::HALTED,
+    ..RESET
 };
 
 impl State {
@@ -107,46 +94,63 @@ fn journal_with(record: &[u8]) -> [u8; 536] {
     j
 }
 
-// What can be altered by its lowest bit.
-trait Altered: Copy {
-    fn altered(self) -> Self;
+// Slots or bytes that a call leaves, compared as crates/compare does.
+trait Left: Copy {
+    const PLACES: usize;
+
+    fn is_same(&self, paper: &Self) -> bool;
+
+    // With the lowest bit of place i altered.
+    fn altered(self, i: usize) -> Self;
 }
 
-impl Altered for u8 {
-    fn altered(self) -> u8 {
-        self ^ 1
+impl Left for [u32; SLOTS] {
+    const PLACES: usize = SLOTS;
+
+    fn is_same(&self, paper: &[u32; SLOTS]) -> bool {
+        same_slots(self, paper)
     }
-}
 
-impl Altered for u32 {
-    fn altered(self) -> u32 {
-        self ^ 1
-    }
-}
-
-// Tells whether something is as the papers say, and how many of what they say, one altered in each, it is not.
-fn tell<T: Altered, const N: usize, F: Fn(&[T; N]) -> bool>(
-    rt: &impl Print,
-    what: &str,
-    paper: [T; N],
-    is_same: F,
-) -> io::Result<()>
-    requires { F.IsAlwaysCallable is_same }
-{
-    let said = if is_same(&paper) { "as" } else { "other than" };
-    let mut differ: u64 = 0;
-    for i in 0..N {
-        let mut wrong = paper;
-        wrong[i] = paper[i].altered();
-        if !is_same(&wrong) {
-            differ = differ.wrapping_add(1);
+    fn altered(self, i: usize) -> [u32; SLOTS] {
+        let mut wrong = self;
+        if let Some(slot) = wrong.get_mut(i) {
+            *slot ^= 1;
         }
+        wrong
     }
+}
+
+impl<const N: usize> Left for [u8; N] {
+    const PLACES: usize = N;
+
+    fn is_same(&self, paper: &[u8; N]) -> bool {
+        same(self, paper)
+    }
+
+    fn altered(self, i: usize) -> [u8; N] {
+        let mut wrong = self;
+        if let Some(byte) = wrong.get_mut(i) {
+            *byte ^= 1;
+        }
+        wrong
+    }
+}
+
+// Tells whether this is what the papers say, and how many of what they say, one place altered in each, it is not.
+fn tell<T: Left>(rt: &impl Print, what: &str, left: &T, paper: T) -> io::Result<()> {
+    let said = if left.is_same(&paper) {
+        "as"
+    } else {
+        "other than"
+    };
+    let differ = (0..T::PLACES)
+        .filter(|i| !left.is_same(&paper.altered(*i)))
+        .count();
     println!(rt; "{what} {said} the papers say, altered ones that differ {differ}")
 }
 
 pub fn tell_slots(rt: &impl Print, slots: &[u32; SLOTS], paper: State) -> io::Result<()> {
-    tell(rt, "slots", paper.slots(), |wrong| same_slots(slots, wrong))
+    tell(rt, "slots", slots, paper.slots())
 }
 
 pub fn tell_bytes<const N: usize>(
@@ -155,7 +159,7 @@ pub fn tell_bytes<const N: usize>(
     bytes: &[u8; N],
     paper: [u8; N],
 ) -> io::Result<()> {
-    tell(rt, what, paper, |wrong| same(bytes, wrong))
+    tell(rt, what, bytes, paper)
 }
 
 #[derive(Clone, Copy)]
@@ -181,6 +185,10 @@ impl Board {
             journal: journal_with(record),
             ..self
         }
+    }
+
+    pub fn reset(&mut self, rom: &[u8]) -> ResetAnswer {
+        machine::reset(&mut self.slots, &self.memory, rom)
     }
 
     pub fn step_keeping(&mut self, win: Window, rom: &[u8], mark: usize) -> StepAnswer {

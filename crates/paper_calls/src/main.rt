@@ -26,12 +26,8 @@ const MOVEQ: u16 = 0x7001;
 
 const AFTER_MOVEQ: State = State {
     d0: 1,
-    d1: 0,
-    usp: 0,
-    ssp: 0x400,
     pc: 0x202,
-    sr: 0x2700,
-    mode: codes::RUNNING,
+    ..READY
 };
 
 // The record of a mode that was 0: slot 19, old value 0, one slot, no byte.
@@ -173,7 +169,7 @@ fn torn_run(rt: &impl Print) -> io::Result<()> {
 // A reset gives the window 0 to the memory's length; the vectors are 0.
 fn reset_window(rt: &impl Print) -> io::Result<()> {
     let mut b = Board::new(STALE, MOVEQ);
-    let a = machine::reset(&mut b.slots, &b.memory, &[]);
+    let a = b.reset(&[]);
     println!(rt; "reset: number {}, lo {}, hi {}", a.number, a.lo, a.hi)?;
     tell_slots(rt, &b.slots, RESET)
 }

@@ -30,24 +30,16 @@ const PAST_ROM: Window = Window {
 
 // User state at the ROM's start.
 const IN_ROM: State = State {
-    d0: 0,
-    d1: 0,
-    usp: 0,
-    ssp: 0x400,
     pc: ROM_START,
     sr: 0,
-    mode: codes::RUNNING,
+    ..READY
 };
 
 // User state at $200 whose stack is the ROM's second word.
 const ON_ROM: State = State {
-    d0: 0,
-    d1: 0,
     usp: ROM_START + 2,
-    ssp: 0x400,
-    pc: 0x200,
     sr: 0,
-    mode: codes::RUNNING,
+    ..READY
 };
 
 // The record of MOVEQ #1,D0 at $F00000: slots 0 and 17, old values 0 and $F00000, which is 7, 64, 0, 0 in base 128; two slots, no byte.
@@ -56,7 +48,7 @@ const RECORD_IN_ROM: [u8; 9] = [0, 0, 17, 7, 192, 128, 128, 2, 0];
 // A reset gives the window 0 to the memory's length, and not to the ROM's end.
 fn reset_beside(rt: &impl Print) -> io::Result<()> {
     let mut b = Board::new(STALE, MOVEQ);
-    let a = machine::reset(&mut b.slots, &b.memory, &FOUR_BYTES);
+    let a = b.reset(&FOUR_BYTES);
     println!(rt;
         "reset with a ROM: number {}, lo {}, hi {}",
         a.number, a.lo, a.hi
@@ -67,7 +59,7 @@ fn reset_beside(rt: &impl Print) -> io::Result<()> {
 // With an odd ROM it is refused.
 fn reset_odd(rt: &impl Print) -> io::Result<()> {
     let mut b = Board::new(STALE_RUNNING, MOVEQ);
-    let a = machine::reset(&mut b.slots, &b.memory, &THREE_BYTES);
+    let a = b.reset(&THREE_BYTES);
     println!(rt;
         "reset with a ROM of 3 bytes: number {}, lo {}, hi {}",
         a.number, a.lo, a.hi
