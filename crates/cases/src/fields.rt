@@ -1,208 +1,175 @@
-// fields.rt - what a case's line says of memory, clocks, window and ROM, and whether the fields after its first ten are those of a case.
-// Means: nothing; proved safe.
-// Uses: codes, bus, compare, setting, text.  Source: [ours], crates/vectors/README.md.
+// fields.rt - a line taken apart: what a case says of memory, the step, its undo, clocks, window and ROM.
+// Means: of the length of memory, that it is in its limits; else nothing, proved safe.
+// Uses: codes, bus, setting, text.  Source: [ours], crates/vectors/README.md.
+ghost use Rattle.std.specs.Prelude.{◌≤◌, IfSome};
+
 use crate::setting::put_each;
-use crate::text::{NO_NUMBER, decimal, field, marks, number, piece, rest};
+use crate::text::{decimal, field, halves, marks, number, parted, piece};
 use bus::Window;
-use compare::same;
 
-// spaces of a line that says nothing of its undo, and of one that does; and of both where the step's clocks follow. A window may stand
-// after all of these, with a space more, and after that a ROM, with another.
-const SPACES: usize = 9;
-
-const SPACES_WITH_CLOCKS: usize = 10;
-
-const SPACES_WITH_UNDO: usize = 13;
-
-const SPACES_WITH_BOTH: usize = 14;
-
-// The last field of a line.
-fn last_field(text: &[u8]) -> &[u8] {
-    field(text, marks(text, b' '))
+// Slots and memory, as two fields list them.
+#[derive(Clone, Copy)]
+pub(crate) struct Lists<'a> {
+    pub slots: &'a [u8],
+    pub runs: &'a [u8],
 }
 
-// Whether a line says a ROM, in its last field.
-fn says_rom(text: &[u8]) -> bool {
-    same(piece(last_field(text), b'=', 0), b"rom")
+// What is wanted of an undo, where a line says it: the number, what is then not as before the step, and the mark.
+#[derive(Clone, Copy)]
+pub(crate) struct Undone<'a> {
+    pub number: u32,
+    pub lists: Lists<'a>,
+    pub mark: usize,
 }
 
-// The field that a window stands in: the last one, or the one before the ROM.
-fn window_field(text: &[u8]) -> &[u8] {
-    let all = marks(text, b' ');
-    if says_rom(text) && 0 < all {
-        return field(text, all - 1);
+// A ROM's length, and its runs if any are listed.
+#[derive(Clone, Copy)]
+struct Rom<'a> {
+    length: usize,
+    runs: Option<&'a [u8]>,
+}
+
+// A line that is a case. Its lists may still be none.
+#[derive(Clone, Copy)]
+pub struct Case<'a> {
+    pub memory_length: usize,
+    pub(crate) level: &'a [u8],
+    pub(crate) vector: &'a [u8],
+    pub(crate) before: Lists<'a>,
+    pub(crate) after: Lists<'a>,
+    pub(crate) record: &'a [u8],
+    pub(crate) undone: Option<Undone<'a>>,
+    clocks: Option<u32>,
+    pub(crate) window: Window,
+    rom: Option<Rom<'a>>,
+}
+
+// A line without its last field, and that field, where it has this name before its equals sign.
+fn without_last<'a>(text: &'a [u8], name: &[u8]) -> (&'a [u8], Option<&'a [u8]>) {
+    match text.iter().rposition(|b| *b == b' ') {
+        Some(i) if piece(&text[i + 1..], b'=', 0) == name => (&text[..i], Some(&text[i + 1..])),
+        _ => (text, None),
     }
-    field(text, all)
 }
 
-// Whether a line says a window.
-fn says_window(text: &[u8]) -> bool {
-    same(piece(window_field(text), b'=', 0), b"window")
+// What a field NAME=VALUE says.
+fn value(field: &[u8]) -> Option<&[u8]> {
+    let (_, said) = halves(field, b'=')?;
+    Some(said)
 }
 
-// The spaces of a line without its window and its ROM, which stands only after a window.
-fn spaces(text: &[u8]) -> usize {
-    let all = marks(text, b' ');
-    if says_rom(text) && 1 < all {
-        return all - 2;
-    }
-    if says_window(text) && 0 < all {
-        return all - 1;
-    }
-    all
-}
-
-// Whether a line says what its undo is to leave.
-pub fn says_undo(text: &[u8]) -> bool {
-    SPACES_WITH_UNDO <= spaces(text)
-}
-
-// Whether a line says the step's clocks, in a field after all others but these two.
-fn says_clocks(text: &[u8]) -> bool {
-    let n = spaces(text);
-    (n == SPACES_WITH_CLOCKS) | (n == SPACES_WITH_BOTH)
-}
-
-// The field after all others but the window and the ROM.
-fn clocks_field(text: &[u8]) -> &[u8] {
-    field(text, spaces(text))
+// The length of memory that a field says: even, 1,024 to 16,777,216 bytes.
+fn memory_in(field: &[u8]) -> Option<u32>
+    ensures { IfSome result (λ n. (1024 ≤ n) × (n ≤ 16777216)) }
+{
+    let n = number(field)?;
+    ((1024..=16777216).contains(&n) && n % 2 == 0).then_some(n)
 }
 
 // The clocks that a field `clocks=N` says, N in base 10.
-fn clocks_in(field: &[u8]) -> u64 {
-    if marks(field, b'=') != 1 {
-        return NO_NUMBER;
+fn clocks_in(field: &[u8]) -> Option<u32> {
+    let (name, n) = halves(field, b'=')?;
+    if name != b"clocks".as_slice() {
+        return None;
     }
-    if !same(piece(field, b'=', 0), b"clocks") {
-        return NO_NUMBER;
-    }
-    decimal(piece(field, b'=', 1))
+    decimal(n)
 }
 
-// Whether these are the clocks that the line says, if it says any.
-pub fn right_clocks(text: &[u8], clocks: u32) -> bool {
-    if !says_clocks(text) {
-        return true;
-    }
-    clocks_in(clocks_field(text)) == clocks as u64
+// The window that a field `window=LO,HI` says, in base 16.
+fn window_in(field: &[u8]) -> Option<Window> {
+    let (lo, hi) = halves(value(field)?, b',')?;
+    Some(Window {
+        lo: number(lo)?,
+        hi: number(hi)?,
+    })
 }
 
-// An end of the window that a field `window=LO,HI` says, in base 16: 0 for LO, 1 for HI.
-fn window_end(field: &[u8], k: usize) -> u64 {
-    if marks(field, b'=') != 1 {
-        return NO_NUMBER;
-    }
-    let ends = piece(field, b'=', 1);
-    if marks(ends, b',') != 1 {
-        return NO_NUMBER;
-    }
-    number(piece(ends, b',', k))
+// The ROM that a field `rom=LENGTH` or `rom=LENGTH,RUNS` says, no longer than one can be. It may be odd.
+fn rom_in(field: &[u8]) -> Option<Rom<'_>> {
+    let (length, runs) = parted(value(field)?, b',');
+    let length = number(length)? as usize;
+    (length <= codes::MOST_ROM).then_some(Rom { length, runs })
 }
 
-// Whether a line's window, where it says one, is two numbers.
-fn has_window(text: &[u8]) -> bool {
-    if !says_window(text) {
-        return true;
-    }
-    let said = window_field(text);
-    (window_end(said, 0) < NO_NUMBER) & (window_end(said, 1) < NO_NUMBER)
+// What the fields after the first ten say of the undo.
+fn undone_in(text: &[u8]) -> Option<Undone<'_>> {
+    Some(Undone {
+        number: number(field(text, 10))?,
+        lists: Lists {
+            slots: field(text, 11),
+            runs: field(text, 12),
+        },
+        mark: number(field(text, 13))? as usize,
+    })
 }
 
-// The window that a line says, or all of a memory of so many bytes.
-pub fn window(text: &[u8], len: usize) -> Window {
-    if !says_window(text) {
-        return Window {
-            lo: 0,
-            hi: (len % 4294967296) as u32,
+impl<'a> Case<'a> {
+    // The case that a line is: ten fields, or fourteen with those of the undo; and after them none, clocks, a window or both, and after a
+    // window perhaps a ROM.
+    pub fn of(text: &'a [u8]) -> Option<Case<'a>>
+        ensures { IfSome result (λ c. (1024 ≤ c.memory_length) × (c.memory_length ≤ 16777216)) }
+    {
+        let (text, rom) = without_last(text, b"rom");
+        let (text, window) = without_last(text, b"window");
+        if rom.is_some() && window.is_none() {
+            return None;
+        }
+        let (says_undo, clocks) = match marks(text, b' ') {
+            9 => (false, None),
+            10 => (false, Some(field(text, 10))),
+            13 => (true, None),
+            14 => (true, Some(field(text, 14))),
+            _ => return None,
         };
+        let memory = memory_in(field(text, 2))?;
+        Some(Case {
+            memory_length: memory as usize,
+            level: field(text, 3),
+            vector: field(text, 4),
+            before: Lists {
+                slots: field(text, 5),
+                runs: field(text, 6),
+            },
+            after: Lists {
+                slots: field(text, 7),
+                runs: field(text, 8),
+            },
+            record: field(text, 9),
+            undone: if says_undo {
+                Some(undone_in(text)?)
+            } else {
+                None
+            },
+            clocks: match clocks {
+                Some(said) => Some(clocks_in(said)?),
+                None => None,
+            },
+            window: match window {
+                Some(said) => window_in(said)?,
+                None => Window { lo: 0, hi: memory },
+            },
+            rom: match rom {
+                Some(said) => Some(rom_in(said)?),
+                None => None,
+            },
+        })
     }
-    let said = window_field(text);
-    Window {
-        lo: (window_end(said, 0) % NO_NUMBER) as u32,
-        hi: (window_end(said, 1) % NO_NUMBER) as u32,
-    }
-}
 
-// The length that a field `rom=LEN` or `rom=LEN,RUNS` says, in base 16.
-fn length_in(field: &[u8]) -> u64 {
-    if marks(field, b'=') != 1 {
-        return NO_NUMBER;
+    // The length of its ROM.
+    pub fn rom_length(&self) -> usize {
+        self.rom.map_or(0, |rom| rom.length)
     }
-    number(piece(piece(field, b'=', 1), b',', 0))
-}
 
-// Whether a line's ROM, where it says one, stands after a window, and is no longer than a ROM can be. It may be odd.
-fn has_rom(text: &[u8]) -> bool {
-    if !says_rom(text) {
-        return true;
+    // Whether these are the clocks that the line says, if it says any.
+    pub(crate) fn has_clocks(&self, clocks: u32) -> bool {
+        self.clocks.is_none_or(|due| due == clocks)
     }
-    if !says_window(text) {
-        return false;
-    }
-    length_in(last_field(text)) <= codes::MOST_ROM as u64
-}
 
-// The length of the ROM of a line that is a case.
-pub fn rom_length(text: &[u8]) -> usize {
-    if !says_rom(text) {
-        return 0;
+    // Puts the runs that the line lists of its ROM, whose places are addresses.
+    pub(crate) fn put_rom(&self, rom: &mut [u8]) -> Option<()> {
+        match self.rom.and_then(|rom| rom.runs) {
+            Some(runs) => put_each(runs, rom, codes::ROM_START),
+            None => Some(()),
+        }
     }
-    (length_in(last_field(text)) % NO_NUMBER) as usize
-}
-
-// Puts the runs that a line lists of its ROM, whose places are addresses.
-pub fn put_rom(text: &[u8], rom: &mut [u8]) -> bool {
-    if !says_rom(text) {
-        return true;
-    }
-    let list = piece(last_field(text), b'=', 1);
-    if marks(list, b',') == 0 {
-        return true;
-    }
-    put_each(rest(list, b','), rom, codes::ROM_START as u64, false)
-}
-
-// Whether a line's clocks, where it says them, are a number.
-fn has_clocks(text: &[u8]) -> bool {
-    if !says_clocks(text) {
-        return true;
-    }
-    clocks_in(clocks_field(text)) < NO_NUMBER
-}
-
-// Whether a line has ten fields, or fourteen of which those of the undo's answer are numbers; and after them none, clocks, a window or both,
-// and after a window perhaps a ROM.
-fn has_fields(text: &[u8]) -> bool {
-    if !(has_clocks(text) & has_window(text) & has_rom(text)) {
-        return false;
-    }
-    let n = spaces(text);
-    if (n == SPACES) | (n == SPACES_WITH_CLOCKS) {
-        return true;
-    }
-    if (n != SPACES_WITH_UNDO) & (n != SPACES_WITH_BOTH) {
-        return false;
-    }
-    if NO_NUMBER <= number(field(text, 10)) {
-        return false;
-    }
-    number(field(text, 13)) < NO_NUMBER
-}
-
-// The length of a case's memory, or 0 if the line is no case.
-pub fn memory_length(text: &[u8]) -> usize {
-    if !has_fields(text) {
-        return 0;
-    }
-    let n = number(field(text, 2));
-    if n < 1024 {
-        return 0;
-    }
-    if 16777216 < n {
-        return 0;
-    }
-    if n % 2 != 0 {
-        return 0;
-    }
-    n as usize
 }

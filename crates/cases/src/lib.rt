@@ -6,6 +6,7 @@
 pub mod fields;
 pub mod lines;
 pub mod setting;
+pub mod suite;
 pub mod tally;
 pub mod text;
 pub mod trying;

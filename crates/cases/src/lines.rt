@@ -1,106 +1,61 @@
 // lines.rt - the lines of an input, one after the other.
 // Means: nothing; proved safe.
 // Uses: std's reading alone.  Source: [ours].
+use std::alloc::Global;
 use std::io;
-use std::io::Read;
+use std::io::{BufRead, BufReader, Read};
 
-// How far the reading is: the chunk's bytes from `at` to `end` belong to no line yet. A length above the room of a line
-// says that the line is too long.
+// bytes of the longest line that is kept whole, and of a read
+const LONGEST: usize = 8192;
+
+const AHEAD: usize = 65536;
+
+// A line without its end: its number from 1, and its bytes, or the first LONGEST if there are more.
 #[derive(Clone, Copy)]
-pub struct Reading {
-    pub at: usize,
-    pub end: usize,
+pub struct Line<'a> {
     pub number: u64,
-    pub length: usize,
-    pub state: u32,
+    pub text: &'a [u8],
+    pub is_whole: bool,
 }
 
-// states of a reading: within a line; after a line; after the last line
-pub const INSIDE: u32 = 0;
-
-pub const ENDED: u32 = 1;
-
-pub const NO_MORE: u32 = 2;
-
-// Before the first line.
-pub fn start() -> Reading {
-    Reading {
-        at: 0,
-        end: 0,
-        number: 0,
-        length: 0,
-        state: ENDED,
-    }
+// An input, the number of the line that was read last, and its bytes.
+#[derive(Drop)]
+pub struct Lines<R> {
+    input: BufReader<R>,
+    number: u64,
+    text: Vec<u8>,
 }
 
-// One byte more of the line that is read.
-fn with_byte(r: Reading, line: &mut [u8], b: u8) -> Reading {
-    let mut next = r;
-    let length = r.length;
-    if b == b'\n' {
-        next.state = ENDED;
-        return next;
+impl<R: Read + Drop> Lines<R> {
+    // Before the first line.
+    pub(crate) fn new(alloc: Global, input: R) -> io::Result<Lines<R>> {
+        Ok(Lines {
+            input: BufReader::with_capacity(alloc, AHEAD, input)?,
+            number: 0,
+            text: Vec::new(alloc),
+        })
     }
-    if length < line.len() {
-        line[length] = b;
-        next.length = length + 1;
-        return next;
-    }
-    next.length = usize::MAX;
-    next
-}
 
-// Fills the chunk anew. At the end of the input a line that has bytes is ended, and no other begins.
-fn refill(input: &mut impl Read, r: Reading, chunk: &mut [u8]) -> io::Result<Reading> {
-    let got = input.read(chunk)?;
-    let mut next = r;
-    next.at = 0;
-    next.end = got;
-    if 0 < next.end {
-        return Ok(next);
+    // The next line, if there is one. At the end of the input a line that has bytes is one.
+    pub(crate) fn next(&mut self) -> io::Result<Option<Line<'_>>> {
+        self.text.clear();
+        let mut start = self.input.by_ref().take(LONGEST as u64 + 1);
+        if start.read_until(b'\n', &mut self.text)? == 0 {
+            return Ok(None);
+        }
+        if self.text.last() == Some(&b'\n') {
+            self.text.pop();
+        }
+        let is_whole = self.text.len() <= LONGEST;
+        if !is_whole {
+            self.text.truncate(LONGEST);
+            self.input.skip_until(b'\n')?;
+        }
+        self.number = self.number.wrapping_add(1);
+        Ok(Some(Line {
+            number: self.number,
+            text: self.text.as_slice(),
+            is_whole,
+        }))
     }
-    if 0 < next.length {
-        next.state = ENDED;
-        return Ok(next);
-    }
-    next.state = NO_MORE;
-    Ok(next)
-}
-
-fn read_on(
-    input: &mut impl Read,
-    r: Reading,
-    chunk: &mut [u8],
-    line: &mut [u8],
-) -> io::Result<Reading> {
-    let at = r.at;
-    let end = r.end;
-    if chunk.len() <= at {
-        return refill(input, r, chunk);
-    }
-    if end <= at {
-        return refill(input, r, chunk);
-    }
-    let mut next = r;
-    next.at = at + 1;
-    Ok(with_byte(next, line, chunk[at]))
-}
-
-// The next line. A read that fails is the only error: chunk and line then hold what was read before it.
-pub fn next_line(
-    input: &mut impl Read,
-    r: Reading,
-    chunk: &mut [u8],
-    line: &mut [u8],
-) -> io::Result<Reading> {
-    let mut now = r;
-    now.number = std::num::wrapping_add_u64(r.number, 1);
-    now.length = 0;
-    now.state = INSIDE;
-    let mut turns = u64::MAX;
-    while turns > 0 && now.state == INSIDE {
-        now = read_on(input, now, chunk, line)?;
-        turns -= 1;
-    }
-    Ok(now)
 }

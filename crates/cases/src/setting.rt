@@ -1,138 +1,93 @@
-// setting.rt - puts what a line lists into slots and bytes.
+// setting.rt - puts what a line lists into slots and bytes: None where it lists what is none, or what has no room.
 // Means: nothing; proved safe.
 // Uses: codes, text.  Source: [ours], crates/vectors/README.md.
-use crate::text::{NO_BYTE, NO_NUMBER, byte_at, marks, number, piece, slot_number};
+use crate::text::{byte_of, halves, marks, number, slot_number};
 use codes::SLOTS;
 
-fn put_byte(to: &mut [u8], at: usize, b: u32) -> bool {
-    if to.len() <= at {
-        return false;
+// Puts the bytes that text spells, one or more, at place `at`.
+pub fn put_bytes(text: &[u8], to: &mut [u8], at: usize) -> Option<()> {
+    let (spelled, odd) = text.as_chunks::<2>();
+    if spelled.is_empty() || !odd.is_empty() {
+        return None;
     }
-    if NO_BYTE <= b {
-        return false;
+    let end = at.checked_add(spelled.len())?;
+    let room = to.get_mut(at..end)?;
+    for (byte, digits) in room.iter_mut().zip(spelled) {
+        *byte = byte_of(digits)?;
     }
-    to[at] = b as u8;
-    true
-}
-
-fn listed(text: &[u8], i: usize, clear: bool) -> u32 {
-    if clear {
-        return 0;
-    }
-    byte_at(text, i)
-}
-
-// Puts the bytes that text spells, or as many zeros, at place `at`; whether text spells some and they have room.
-pub fn put_bytes(text: &[u8], to: &mut [u8], at: usize, clear: bool) -> bool {
-    if text.len() == 0 {
-        return false;
-    }
-    let mut good = text.len() % 2 == 0;
-    for i in 0..text.len() / 2 {
-        let b = listed(text, i, clear);
-        let put = put_byte(to, std::num::wrapping_add_usize(at, i), b);
-        good = good & put;
-    }
-    good
+    Some(())
 }
 
 // A run is a place, a colon and bytes; places are counted from that of the first byte.
-fn put_run(run: &[u8], to: &mut [u8], first: u64, clear: bool) -> bool {
-    if marks(run, b':') != 1 {
-        return false;
-    }
-    let at = number(piece(run, b':', 0));
-    if NO_NUMBER <= at {
-        return false;
-    }
-    if at < first {
-        return false;
-    }
-    put_bytes(piece(run, b':', 1), to, (at - first) as usize, clear)
+fn put_run(run: &[u8], to: &mut [u8], first: u32) -> Option<()> {
+    let (place, bytes) = halves(run, b':')?;
+    let at = number(place)?.checked_sub(first)?;
+    put_bytes(bytes, to, at as usize)
 }
 
-fn is_none(list: &[u8]) -> bool {
-    if list.len() == 1 {
-        return list[0] == b'-';
-    }
-    false
+// A hyphen lists nothing.
+fn is_hyphen(list: &[u8]) -> bool {
+    matches!(list, b"-")
 }
 
-// Puts the bytes that a field spells, which are as many as there is room; a hyphen is none.
-pub fn put_all(spelled: &[u8], to: &mut [u8]) -> bool {
-    if is_none(spelled) {
-        return to.len() == 0;
+// Puts the bytes that a field spells at the start of a buffer, and answers that part; a hyphen is none.
+pub fn put_all<'a>(spelled: &[u8], buffer: &'a mut [u8]) -> Option<&'a mut [u8]> {
+    let part = buffer.get_mut(..spelled.len() / 2)?;
+    if !is_hyphen(spelled) {
+        put_bytes(spelled, part, 0)?;
     }
-    put_bytes(spelled, to, 0, false)
+    Some(part)
 }
 
-// Puts, or clears, every run of a list that has one or more.
-pub fn put_each(runs: &[u8], to: &mut [u8], first: u64, clear: bool) -> bool {
-    let mut good = true;
-    for k in 0..=marks(runs, b',') {
-        let put = put_run(piece(runs, b',', k), to, first, clear);
-        good = good & put;
+// Puts every run of a list that has one or more.
+pub fn put_each(runs: &[u8], to: &mut [u8], first: u32) -> Option<()> {
+    for run in runs.split(|b| *b == b',') {
+        put_run(run, to, first)?;
     }
-    good
+    Some(())
 }
 
-// Puts, or clears, every run of a list; a hyphen is none.
-pub fn put_runs(runs: &[u8], to: &mut [u8], clear: bool) -> bool {
-    if is_none(runs) {
-        return true;
+// Puts every run of a list; a hyphen is none.
+pub fn put_runs(runs: &[u8], to: &mut [u8]) -> Option<()> {
+    if is_hyphen(runs) {
+        return Some(());
     }
-    put_each(runs, to, 0, clear)
+    put_each(runs, to, 0)
 }
-
-fn put_slot(slots: &mut [u32; SLOTS], k: usize, value: u64) -> bool {
-    if SLOTS <= k {
-        return false;
-    }
-    if NO_NUMBER <= value {
-        return false;
-    }
-    slots[k] = value as u32;
-    true
-}
-
-// Between the values of a list of slots.
-const COMMAS: usize = SLOTS - 1;
 
 // Puts the values of a list of all slots.
-pub fn put_slots(list: &[u8], slots: &mut [u32; SLOTS]) -> bool {
-    let mut good = marks(list, b',') == COMMAS;
-    for k in 0..SLOTS {
-        let put = put_slot(slots, k, number(piece(list, b',', k)));
-        good = good & put;
+pub fn put_slots(list: &[u8], slots: &mut [u32; SLOTS]) -> Option<()> {
+    if marks(list, b',') != SLOTS - 1 {
+        return None;
     }
-    good
+    for (slot, value) in slots.iter_mut().zip(list.split(|b| *b == b',')) {
+        *slot = number(value)?;
+    }
+    Some(())
 }
 
 // A change is a slot's number in base 10, an equals sign and a value.
-fn change_slot(change: &[u8], slots: &mut [u32; SLOTS]) -> bool {
-    if marks(change, b'=') != 1 {
-        return false;
-    }
-    let k = slot_number(piece(change, b'=', 0));
-    put_slot(slots, k, number(piece(change, b'=', 1)))
+fn change_slot(change: &[u8], slots: &mut [u32; SLOTS]) -> Option<()> {
+    let (slot, value) = halves(change, b'=')?;
+    let slot = slots.get_mut(slot_number(slot)?)?;
+    *slot = number(value)?;
+    Some(())
 }
 
-// Puts the values of a list of changes.
-pub fn change_slots(changes: &[u8], slots: &mut [u32; SLOTS]) -> bool {
-    if is_none(changes) {
-        return true;
+// Puts the values of a list of changes; a hyphen is none.
+pub fn change_slots(changes: &[u8], slots: &mut [u32; SLOTS]) -> Option<()> {
+    if is_hyphen(changes) {
+        return Some(());
     }
-    let mut good = true;
-    for k in 0..=marks(changes, b',') {
-        let put = change_slot(piece(changes, b',', k), slots);
-        good = good & put;
+    for change in changes.split(|b| *b == b',') {
+        change_slot(change, slots)?;
     }
-    good
+    Some(())
 }
 
 // Bytes that tell places apart.
 pub fn fill(to: &mut [u8]) {
-    for i in 0..to.len() {
-        put_byte(to, i, (i % 251) as u32);
+    for (i, byte) in to.iter_mut().enumerate() {
+        *byte = (i % 251) as u8;
     }
 }

@@ -1,58 +1,49 @@
-// tally.rt - how many cases agree, differ and are skipped, and which of those that differ are named.
+// tally.rt - what a case is found to be, and how many agree, differ and are skipped.
 // Means: nothing; proved safe.
-// Uses: compare.  Source: [ours].
-use compare::verdicts::{AGREES, SKIPPED};
-use std::io;
+// Uses: nothing.  Source: [ours].
+use std::fmt;
 
-// how many of the cases that differ are named
-const NAMED: u64 = 300;
+// A case that differs has a difference.
+#[derive(Clone, Copy, PartialEq, Eq)]
+pub enum Finding<D> {
+    Agrees,
+    Skipped,
+    Differs(D),
+}
 
-#[derive(Clone, Copy)]
+impl<D> From<Result<(), D>> for Finding<D> {
+    fn from(verdict: Result<(), D>) -> Finding<D> {
+        match verdict {
+            Ok(()) => Finding::Agrees,
+            Err(difference) => Finding::Differs(difference),
+        }
+    }
+}
+
+#[derive(Clone, Copy, Default)]
 pub struct Tally {
     pub agree: u64,
     pub differ: u64,
     pub skipped: u64,
 }
 
-// Before the first case.
-pub fn nothing() -> Tally {
-    Tally {
-        agree: 0,
-        differ: 0,
-        skipped: 0,
+impl Tally {
+    // Counts one case more.
+    pub(crate) fn count<D>(&mut self, found: &Finding<D>) {
+        let n = match found {
+            Finding::Agrees => &mut self.agree,
+            Finding::Skipped => &mut self.skipped,
+            Finding::Differs(_) => &mut self.differ,
+        };
+        *n = n.wrapping_add(1);
     }
 }
 
-fn one_more(n: u64) -> u64 {
-    std::num::wrapping_add_u64(n, 1)
-}
-
-// The tally with what one case more is found to be.
-pub fn counted(t: Tally, found: u32) -> Tally {
-    let mut next = t;
-    match found {
-        AGREES => next.agree = one_more(t.agree),
-        SKIPPED => next.skipped = one_more(t.skipped),
-        _ => next.differ = one_more(t.differ),
+impl fmt::Display for Tally {
+    fn fmt<W: fmt::Write>(&self, f: &mut fmt::Formatter<W>) -> fmt::Result {
+        let agree = self.agree;
+        let differ = self.differ;
+        let skipped = self.skipped;
+        write!(f, "agree {agree}, differ {differ}, skipped {skipped}")
     }
-    next
-}
-
-// Whether a case is named: one that differs, among the first.
-pub fn is_named(t: Tally, found: u32) -> bool {
-    if found == AGREES {
-        return false;
-    }
-    if found == SKIPPED {
-        return false;
-    }
-    t.differ < NAMED
-}
-
-// Tells the tally in a line. A write that fails is the only error.
-pub fn write(rt: &impl Print, t: Tally) -> io::Result<()> {
-    let agree = t.agree;
-    let differ = t.differ;
-    let skipped = t.skipped;
-    println!(rt; "agree {agree}, differ {differ}, skipped {skipped}")
 }

@@ -1,5 +1,5 @@
 -- Same.antt - what a comparison of two lists has to tell.
--- Met by: src/lib.rt.  Laws: proofs/SameLaws.antt.
+-- Met by: src/lib.rt.
 -- Source: [ours].
 use Rattle.std.specs.Prelude.{ℕ, ◌≡◌, List, Bool, true}
 

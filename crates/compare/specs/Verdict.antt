@@ -1,7 +1,7 @@
 -- Verdict.antt - when a step or an undo agrees with what is wanted of it, and what a verdict has to tell.
--- Met by: src/verdicts.rt.  Laws: proofs/VerdictLaws.antt.
+-- Met by: src/verdicts.rt.
 -- Source: [ours], crates/vectors/README.md.
-use Rattle.std.specs.Prelude.{ℕ, ◌≡◌, List, Bool, true}
+use Rattle.std.specs.Prelude.{ℕ, ◌≡◌, List, Bool, true, Result, IsOk}
 
 -- A step that is done, in time, and leaves all as it is wanted: slots, memory, mark and the whole journal. [ours]
 pub record StepAgrees (number : ℕ) (s goal m wanted : List ℕ) (mark next : ℕ) (j recorded : List ℕ) (timely : Bool) : Type 0 where
@@ -19,6 +19,6 @@ pub record UndoAgrees (number due : ℕ) (s goal m wanted : List ℕ) (mark last
   pub memory : m ≡ wanted
   pub place : mark ≡ last
 
--- A verdict that is 0 exactly where all agrees. [ours]
-abbrev pub TellsAgrees : ℕ → Type 0 → Type 0
-TellsAgrees r agrees = (r ≡ 0 → agrees) × (agrees → r ≡ 0)
+-- A verdict that is Ok exactly where all agrees. [ours]
+abbrev pub TellsAgrees : {T E : Type 0} → Result T E → Type 0 → Type 0
+TellsAgrees r agrees = (IsOk r → agrees) × (agrees → IsOk r)

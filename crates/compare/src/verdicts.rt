@@ -1,38 +1,47 @@
-// verdicts.rt - what a case is found to be: numbers, and the two functions that decide whether its step and its undo agree.
-// Means: specs/Verdict.antt.  Laws: proofs/VerdictLaws.antt.
+// verdicts.rt - what a case is found to differ by, and the two functions that decide whether its step and its undo agree.
+// Means: specs/Verdict.antt.
 // Uses: codes.  Source: [ours], crates/vectors/README.md.
 ghost use Rattle.compare.specs.Verdict.{StepAgrees, UndoAgrees, TellsAgrees};
 
 use crate::{same, same_slots};
 use codes::SLOTS;
+use std::fmt;
 
-pub const AGREES: u32 = 0;
+// What differs first. A line that is no case differs too.
+#[derive(Clone, Copy, PartialEq, Eq)]
+pub enum Difference {
+    NoCase,
+    StepRefused,
+    StepSlots,
+    StepMemory,
+    StepMark,
+    StepJournal,
+    StepClocks,
+    UndoNumber,
+    UndoSlots,
+    UndoMemory,
+    UndoMark,
+}
 
-pub const SKIPPED: u32 = 1;
+impl fmt::Display for Difference {
+    fn fmt<W: fmt::Write>(&self, f: &mut fmt::Formatter<W>) -> fmt::Result {
+        f.write_str(match self {
+            Difference::NoCase => "no case",
+            Difference::StepRefused => "the step is refused",
+            Difference::StepSlots => "slots after the step",
+            Difference::StepMemory => "memory after the step",
+            Difference::StepMark => "mark after the step",
+            Difference::StepJournal => "journal after the step",
+            Difference::StepClocks => "clocks of the step",
+            Difference::UndoNumber => "number after the undo",
+            Difference::UndoSlots => "slots after the undo",
+            Difference::UndoMemory => "memory after the undo",
+            Difference::UndoMark => "mark after the undo",
+        })
+    }
+}
 
-pub const MALFORMED: u32 = 2;
-
-pub const STEP_REFUSED: u32 = 3;
-
-pub const STEP_SLOTS: u32 = 4;
-
-pub const STEP_MEMORY: u32 = 5;
-
-pub const STEP_MARK: u32 = 6;
-
-pub const STEP_JOURNAL: u32 = 7;
-
-pub const STEP_CLOCKS: u32 = 8;
-
-pub const UNDO_NUMBER: u32 = 9;
-
-pub const UNDO_SLOTS: u32 = 10;
-
-pub const UNDO_MEMORY: u32 = 11;
-
-pub const UNDO_MARK: u32 = 12;
-
-// The first thing in which a step differs from what is wanted of it, or that it agrees.
+// Err of the first thing in which a step differs from what is wanted of it, or Ok: it agrees.
 pub fn of_step(
     number: u32,
     slots: &[u32; SLOTS],
@@ -44,30 +53,30 @@ pub fn of_step(
     journal: &[u8],
     record: &[u8],
     timely: bool,
-) -> u32
+) -> Result<(), Difference>
     ensures { TellsAgrees result
         (StepAgrees number slots.now goal.now memory.now wanted.now mark next
         journal.now «record».now timely) }
 {
     if number != 0 {
-        return STEP_REFUSED;
+        return Err(Difference::StepRefused);
     }
     if !same_slots(slots, goal) {
-        return STEP_SLOTS;
+        return Err(Difference::StepSlots);
     }
     if !same(memory, wanted) {
-        return STEP_MEMORY;
+        return Err(Difference::StepMemory);
     }
     if mark != next {
-        return STEP_MARK;
+        return Err(Difference::StepMark);
     }
     if !same(journal, record) {
-        return STEP_JOURNAL;
+        return Err(Difference::StepJournal);
     }
     if !timely {
-        return STEP_CLOCKS;
+        return Err(Difference::StepClocks);
     }
-    AGREES
+    Ok(())
 }
 
 // The same of an undo.
@@ -80,21 +89,21 @@ pub fn of_undo(
     wanted: &[u8],
     mark: usize,
     last: usize,
-) -> u32
+) -> Result<(), Difference>
     ensures { TellsAgrees result
         (UndoAgrees number due slots.now goal.now memory.now wanted.now mark last) }
 {
     if number != due {
-        return UNDO_NUMBER;
+        return Err(Difference::UndoNumber);
     }
     if !same_slots(slots, goal) {
-        return UNDO_SLOTS;
+        return Err(Difference::UndoSlots);
     }
     if !same(memory, wanted) {
-        return UNDO_MEMORY;
+        return Err(Difference::UndoMemory);
     }
     if mark != last {
-        return UNDO_MARK;
+        return Err(Difference::UndoMark);
     }
-    AGREES
+    Ok(())
 }

@@ -6,44 +6,31 @@
 ghost use Rattle.std.specs.Prelude.{◌≡◌};
 ghost use Rattle.compare.specs.Verdict.{TellsAgrees};
 
-use cases::lines::{NO_MORE, Reading};
+use cases::lines::Line;
 use cases::setting::put_all;
-use cases::tally;
-use cases::tally::Tally;
-use cases::text::{NO_NUMBER, decimal, field, marks};
+use cases::suite;
+use cases::suite::Suite;
+use cases::tally::Finding;
+use cases::text::decimal;
 use compare::same;
-use compare::verdicts::{AGREES, SKIPPED};
-use forms::FormAnswer;
-use std::io;
-use std::io::Read;
+use std::{fmt, io};
 
-// spaces of a line that is a case
-const SPACES: usize = 5;
-
-// fields of a line, counted from 0
-const FORM: usize = 0;
-
-const SOURCE: usize = 1;
-
-const BEFORE: usize = 2;
-
-const NUMBER: usize = 3;
-
-const LENGTH: usize = 4;
-
-const AFTER: usize = 5;
-
-// what a case that differs is found to differ by
-const OTHER_NUMBER: u32 = 2;
-
-const OTHER_LENGTH: u32 = 3;
-
-const OTHER_TARGET: u32 = 4;
-
+// What a case that differs is found to differ by.
 #[derive(Clone, Copy)]
-struct Progress {
-    reading: Reading,
-    tally: Tally,
+enum Difference {
+    Number,
+    Length,
+    Target,
+}
+
+impl fmt::Display for Difference {
+    fn fmt<W: fmt::Write>(&self, f: &mut fmt::Formatter<W>) -> fmt::Result {
+        f.write_str(match self {
+            Difference::Number => "number",
+            Difference::Length => "length",
+            Difference::Target => "target",
+        })
+    }
 }
 
 // The refusal's number or 0, and the length of the other form.
@@ -53,192 +40,98 @@ struct Answer {
     length: u64,
 }
 
-// The answer that a line says.
-fn said(text: &[u8]) -> Answer {
-    Answer {
-        number: decimal(field(text, NUMBER)),
-        length: decimal(field(text, LENGTH)),
-    }
+// A line's fields.
+#[derive(Clone, Copy)]
+struct Case<'a> {
+    form: &'a [u8],
+    source: &'a [u8],
+    before: &'a [u8],
+    due: Answer,
+    after: &'a [u8],
 }
 
-fn has_answer(a: Answer) -> bool {
-    (a.number < NO_NUMBER) & (a.length < NO_NUMBER)
+impl<'a> Case<'a> {
+    // The case that a line is, if it is one: just six fields.
+    fn of(text: &'a [u8]) -> Option<Case<'a>> {
+        let mut fields = text.split(|b| *b == b' ');
+        let case = Case {
+            form: fields.next()?,
+            source: fields.next()?,
+            before: fields.next()?,
+            due: Answer {
+                number: decimal(fields.next()?)? as u64,
+                length: decimal(fields.next()?)? as u64,
+            },
+            after: fields.next()?,
+        };
+        fields.next().is_none().then_some(case)
+    }
 }
 
 // The first thing in which an answer and the target after it differ from what is due, or that all agrees.
-fn of_conversion(given: Answer, due: Answer, target: &[u8], wanted: &[u8]) -> u32
+fn of_conversion(given: Answer, due: Answer, target: &[u8], wanted: &[u8]) -> Result<(), Difference>
     ensures { TellsAgrees result ((given ≡ due) × (target.now ≡ wanted.now)) }
 {
     if given.number != due.number {
-        return OTHER_NUMBER;
+        return Err(Difference::Number);
     }
     if given.length != due.length {
-        return OTHER_LENGTH;
+        return Err(Difference::Length);
     }
     if !same(target, wanted) {
-        return OTHER_TARGET;
-    }
-    AGREES
-}
-
-// What the line says, compared with what the conversion gave.
-fn compare_form(text: &[u8], a: FormAnswer, target: &[u8], wanted: &[u8]) -> u32 {
-    let given = Answer {
-        number: a.number as u64,
-        length: a.length as u64,
-    };
-    of_conversion(given, said(text), target, wanted)
-}
-
-// Converts the source from the form that the line says, and compares.
-fn convert(text: &[u8], source: &[u8], target: &mut [u8], wanted: &[u8]) -> u32 {
-    let form = field(text, FORM);
-    if same(form, b"1") {
-        let a = forms::to_form_two(source, target);
-        return compare_form(text, a, target, wanted);
-    }
-    if same(form, b"2") {
-        let a = forms::to_form_one(source, target);
-        return compare_form(text, a, target, wanted);
-    }
-    SKIPPED
-}
-
-// The same, on a source and two targets that are as long as the line spells them.
-fn on_bytes(text: &[u8], source: &mut [u8], target: &mut [u8], wanted: &mut [u8]) -> u32 {
-    if !put_all(field(text, SOURCE), source) {
-        return SKIPPED;
-    }
-    if !put_all(field(text, BEFORE), target) {
-        return SKIPPED;
-    }
-    if !put_all(field(text, AFTER), wanted) {
-        return SKIPPED;
-    }
-    if !has_answer(said(text)) {
-        return SKIPPED;
-    }
-    convert(text, source, target, wanted)
-}
-
-// What a line shows, on parts of a source and two targets.
-fn try_case(text: &[u8], source: &mut [u8], target: &mut [u8], wanted: &mut [u8]) -> u32 {
-    if marks(text, b' ') != SPACES {
-        return SKIPPED;
-    }
-    let n = field(text, SOURCE).len() / 2;
-    let m = field(text, BEFORE).len() / 2;
-    let w = field(text, AFTER).len() / 2;
-    if source.len() < n {
-        return SKIPPED;
-    }
-    if target.len() < m {
-        return SKIPPED;
-    }
-    if wanted.len() < w {
-        return SKIPPED;
-    }
-    on_bytes(
-        text,
-        &mut source[0..n],
-        &mut target[0..m],
-        &mut wanted[0..w],
-    )
-}
-
-// What the line that was read shows; one that is too long is no case.
-fn try_line(
-    line: &[u8],
-    r: Reading,
-    source: &mut [u8],
-    target: &mut [u8],
-    wanted: &mut [u8],
-) -> u32 {
-    let n = r.length;
-    if line.len() < n {
-        return SKIPPED;
-    }
-    try_case(&line[0..n], source, target, wanted)
-}
-
-fn write_reason(rt: &impl Print, found: u32) -> io::Result<()> {
-    match found {
-        OTHER_NUMBER => rt.println(": number"),
-        OTHER_LENGTH => rt.println(": length"),
-        _ => rt.println(": target"),
-    }
-}
-
-// Names a case that differs, if it is among the first.
-fn report(rt: &impl Print, found: u32, before: Tally, line: u64) -> io::Result<()> {
-    if tally::is_named(before, found) {
-        print!(rt; "line {line}")?;
-        write_reason(rt, found)?;
+        return Err(Difference::Target);
     }
     Ok(())
 }
 
-fn next_case(
-    rt: &impl Print,
-    input: &mut impl Read,
-    p: Progress,
-    chunk: &mut [u8],
-    line: &mut [u8],
-    source: &mut [u8],
-    target: &mut [u8],
-    wanted: &mut [u8],
-) -> io::Result<Progress> {
-    let reading = cases::lines::next_line(input, p.reading, chunk, line)?;
-    let so_far = p.tally;
-    if reading.state == NO_MORE {
-        return Ok(Progress {
-            reading,
-            tally: so_far,
-        });
-    }
-    let found = try_line(line, reading, source, target, wanted);
-    report(rt, found, so_far, reading.number)?;
-    Ok(Progress {
-        reading,
-        tally: tally::counted(so_far, found),
-    })
+// Room for the longest source and targets that a line can spell.
+#[derive(Drop)]
+struct Forms {
+    source: [u8; 4096],
+    target: [u8; 4096],
+    wanted: [u8; 4096],
 }
 
-fn try_all(
-    rt: &impl Print,
-    input: &mut impl Read,
-    chunk: &mut [u8; 65536],
-    line: &mut [u8; 8192],
-    source: &mut [u8; 4096],
-    target: &mut [u8; 4096],
-    wanted: &mut [u8; 4096],
-) -> io::Result<()> {
-    let mut p = Progress {
-        reading: cases::lines::start(),
-        tally: tally::nothing(),
-    };
-    let mut turns = u64::MAX;
-    while turns > 0 && p.reading.state != NO_MORE {
-        p = next_case(rt, input, p, chunk, line, source, target, wanted)?;
-        turns -= 1;
+impl Forms {
+    // Converts the source from the form that the line says, and compares; None where it is no case.
+    fn try_case(&mut self, text: &[u8]) -> Option<Result<(), Difference>> {
+        let case = Case::of(text)?;
+        let source = put_all(case.source, &mut self.source)?;
+        let target = put_all(case.before, &mut self.target)?;
+        let wanted = put_all(case.after, &mut self.wanted)?;
+        let answer = match case.form {
+            b"1" => forms::to_form_two(source, target),
+            b"2" => forms::to_form_one(source, target),
+            _ => return None,
+        };
+        let given = Answer {
+            number: answer.number as u64,
+            length: answer.length as u64,
+        };
+        Some(of_conversion(given, case.due, target, wanted))
     }
-    tally::write(rt, p.tally)
+}
+
+impl Suite for Forms {
+    type Difference = Difference;
+
+    // A line that is no case, or too long, is skipped.
+    fn try_line(&mut self, line: Line<'_>) -> io::Result<Finding<Difference>> {
+        let found = if line.is_whole {
+            self.try_case(line.text)
+        } else {
+            None
+        };
+        Ok(found.map_or(Finding::Skipped, Finding::from))
+    }
 }
 
 fn main(rt: HostRuntime) -> io::Result<()> {
-    let mut input = rt.reader();
-    let mut chunk = [0u8; 65536];
-    let mut line = [0u8; 8192];
-    let mut source = [0u8; 4096];
-    let mut target = [0u8; 4096];
-    let mut wanted = [0u8; 4096];
-    try_all(
-        &rt,
-        &mut input,
-        &mut chunk,
-        &mut line,
-        &mut source,
-        &mut target,
-        &mut wanted,
-    )
+    let mut forms = Forms {
+        source: [0; 4096],
+        target: [0; 4096],
+        wanted: [0; 4096],
+    };
+    let tally = suite::try_all(&rt, &mut forms)?;
+    println!(rt; "{tally}")
 }
