@@ -3,7 +3,7 @@
 // Uses: console, nine.  Source: [01 Set down and proved].
 #![tactic(auto)]
 
-use console::{argument, argument_count, opened, tell_failed};
+use console::{arguments, opened, tell_failed};
 use std::fs::File;
 use std::io;
 
@@ -23,15 +23,10 @@ fn show(rt: &HostRuntime, path: &[u8]) -> io::Result<()> {
     }
 }
 
-fn show_argument(rt: &HostRuntime, i: usize) -> io::Result<()> {
-    let mut path = [0u8; 4096];
-    let n = argument(rt, i, &mut path);
-    show(rt, &path[..n])
-}
-
 fn main(rt: HostRuntime) -> io::Result<()> {
-    for i in 1..argument_count(&rt) {
-        show_argument(&rt, i)?;
+    let paths = arguments(&rt)?;
+    for path in &paths {
+        show(&rt, path.as_slice())?;
     }
     Ok(())
 }
