@@ -4,21 +4,18 @@
 use std::fmt;
 use std::fmt::{Display, Formatter};
 
-// A slot by its number, as its name: D0 to D7, A0 to A6, and the others.
+const NAMES: [&str; codes::SLOTS] = [
+    "D0", "D1", "D2", "D3", "D4", "D5", "D6", "D7", "A0", "A1", "A2", "A3", "A4", "A5", "A6",
+    "USP", "SSP", "PC", "SR", "mode",
+];
+
+// A slot by its number, as its name.
 #[derive(Clone, Copy)]
 pub struct Name(pub usize);
 
 impl Display for Name {
     fn fmt<W: fmt::Write>(&self, f: &mut Formatter<W>) -> fmt::Result {
-        match self.0 {
-            k @ 0..=7 => write!(f, "D{k}"),
-            k @ 8..=14 => write!(f, "A{}", k - 8),
-            codes::USP => f.write_str("USP"),
-            codes::SSP => f.write_str("SSP"),
-            codes::PC => f.write_str("PC"),
-            codes::SR => f.write_str("SR"),
-            _ => f.write_str("mode"),
-        }
+        f.pad(NAMES.get(self.0).copied().unwrap_or("mode"))
     }
 }
 
