@@ -9,7 +9,7 @@ use record::limits::{BYTE_LIMIT, SLOT_LIMIT};
 use runs::Logged;
 
 // The logs that the last record was read into, and the place where it starts: at first the file's end.
-#[derive(Clone, Copy)]
+#[derive(Drop)]
 pub struct Back<'a> {
     form: Form,
     file: &'a [u8],
@@ -30,8 +30,8 @@ impl<'a> Back<'a> {
         }
     }
 
-    // Goes back over a record: there is none at place 0, nor where it is not well shaped.
-    pub fn next(&mut self) -> Option<Logged>
+    // Reads a record and goes back over it: there is none at place 0, nor where it is not well shaped.
+    pub fn read(&mut self) -> Option<Logged>
         ensures nearer { OnSome result (self.new.end < self.old.end) }
         ensures logged { IfSome result (λ r. (r.slots ≤ slot_limit) × (r.from ≤ r.to) × (r.to ≤ byte_limit)) }
     {
@@ -60,7 +60,7 @@ pub struct Way {
 pub fn way_of(form: Form, file: &[u8]) -> Way {
     let mut back = Back::new(form, file);
     let mut records = 0u64;
-    while back.next().is_some() {
+    while back.read().is_some() {
         records = records.saturating_add(1);
     }
     Way {

@@ -62,10 +62,7 @@ impl Display for Changes<'_> {
             "; memory "
         })?;
         for (k, run) in bytes.chunk_by(|&a, &b| is_next(a, b)).enumerate() {
-            let first = run
-                .first()
-                .copied()
-                .map_or(0, |entry| Change::from(entry).place);
+            let first = run.first().map_or(0, |&entry| Change::from(entry).place);
             write!(f, "{}{first:06x}:", comma(k))?;
             for &entry in run {
                 write!(f, " {:02x}", Change::from(entry).old % 256)?;
@@ -88,7 +85,7 @@ pub fn tell(rt: &impl Print, form: Form, file: &[u8], records: u64) -> io::Resul
     )?;
     let mut step = records;
     let mut back = Back::new(form, file);
-    while let Some(record) = back.next() {
+    while let Some(record) = back.read() {
         let changes = Changes {
             slots: &back.slots[..record.slots],
             bytes: &back.bytes[record.from..record.to],

@@ -30,10 +30,10 @@ use words::{Asked, MEMORY};
 const JOURNAL: usize = 4194304;
 
 // Slots and memory, as they are at one time.
-#[derive(Clone, Copy)]
-struct State<'a> {
-    slots: &'a [u32; SLOTS],
-    memory: &'a [u8],
+#[derive(Drop)]
+struct State {
+    slots: [u32; SLOTS],
+    memory: Vec<u8>,
 }
 
 // The start of a pattern, after a reset: user state, and no flags.
@@ -79,13 +79,14 @@ fn tell_tried(
     rt: &(impl Print + AllocGlobal),
     t: TryAnswer,
     win: Window,
-    before: State,
-    after: State,
+    before: &State,
+    after: &State,
 ) -> io::Result<()> {
-    let frame = Frame::of(t, after.slots);
-    ending::tell(rt, t, frame, after.slots, after.memory)?;
-    changes::tell_slots(rt, before.slots, after.slots)?;
-    changes::tell_memory(rt, before.memory, after.memory, Bounds { win, frame })
+    let frame = Frame::of(t, &after.slots);
+    let (old, new) = (before.memory.as_slice(), after.memory.as_slice());
+    ending::tell(rt, t, frame, &after.slots, new)?;
+    changes::tell_slots(rt, &before.slots, &after.slots)?;
+    changes::tell_memory(rt, old, new, Bounds { win, frame })
 }
 
 // How much was taken back.
@@ -110,11 +111,11 @@ fn tell_compared(
     rt: &impl Print,
     b: BackAnswer,
     old: Window,
-    before: State,
-    after: State,
+    before: &State,
+    after: &State,
 ) -> io::Result<()> {
-    let slots = compare::same_slots(before.slots, after.slots);
-    let memory = compare::same(before.memory, after.memory);
+    let slots = compare::same_slots(&before.slots, &after.slots);
+    let memory = compare::same(before.memory.as_slice(), after.memory.as_slice());
     let mark = b.mark == 0;
     let window = b.lo == old.lo && b.hi == old.hi;
     println!(rt;
@@ -131,54 +132,47 @@ fn tell_compared(
     })
 }
 
-// Resets by an image, whose length is n before memory's rest of 0, sets the start, tries, tells what that did, takes it back and compares.
+// Resets by an image, of which the first n bytes were read, sets the start, tries, tells what that did, takes it back and compares.
 fn try_image(
     rt: &(impl Print + AllocGlobal),
     n: usize,
     asked: &Asked,
-    image: &[u8],
+    image: Vec<u8>,
     rom: &[u8],
 ) -> io::Result<()> {
-    let mut memory = Vec::from_slice(rt.alloc(), image)?;
-    let mut journal = vec![in rt.alloc(); 0u8; JOURNAL]?;
     let mut slots = [0; SLOTS];
-    let reset = machine::reset(&mut slots, image, rom);
+    let reset = machine::reset(&mut slots, image.as_slice(), rom);
     set_user(&mut slots, asked);
     tell_asked(rt, n, asked, &slots, rom)?;
 
-    let start = slots;
+    let mut journal = vec![in rt.alloc(); 0; JOURNAL]?;
+    let mut now = State {
+        slots,
+        memory: Vec::from_slice(rt.alloc(), image.as_slice())?,
+    };
     let before = State {
-        slots: &start,
+        slots,
         memory: image,
     };
     let t = tries::try_pattern(
-        &mut slots,
+        &mut now.slots,
         asked.win,
-        memory.as_mut_slice(),
+        now.memory.as_mut_slice(),
         rom,
         asked.steps,
         journal.as_mut_slice(),
         0,
     );
-    tell_tried(
-        rt,
-        t,
-        asked.win,
-        before,
-        State {
-            slots: &slots,
-            memory: memory.as_slice(),
-        },
-    )?;
+    tell_tried(rt, t, asked.win, &before, &now)?;
 
     let old = Window {
         lo: reset.lo,
         hi: reset.hi,
     };
     let b = tries::take_back(
-        &mut slots,
+        &mut now.slots,
         asked.win,
-        memory.as_mut_slice(),
+        now.memory.as_mut_slice(),
         rom,
         journal.as_slice(),
         t.mark,
@@ -186,21 +180,12 @@ fn try_image(
         old,
     );
     tell_back(rt, t, b)?;
-    tell_compared(
-        rt,
-        b,
-        old,
-        before,
-        State {
-            slots: &slots,
-            memory: memory.as_slice(),
-        },
-    )
+    tell_compared(rt, b, old, &before, &now)
 }
 
 fn main(rt: HostRuntime) -> io::Result<()> {
     let words = arguments(&rt)?;
-    let Some(asked) = Asked::by(words.as_slice()) else {
+    let Some(asked) = Asked::of(words.as_slice()) else {
         return rt.eprintln(
             "usage: ./run tryer [LO HI STEPS PC STACK ROM] < IMAGE; STEPS is in base 10, ROM a file, the others in base 16, - is the default",
         );
@@ -211,7 +196,7 @@ fn main(rt: HostRuntime) -> io::Result<()> {
     let n = image.len();
     image.resize(MEMORY as usize, 0)?;
     match rom::read(&rt, asked.rom)? {
-        Some(rom) => try_image(&rt, n, &asked, image.as_slice(), rom.as_slice()),
+        Some(rom) => try_image(&rt, n, &asked, image, rom.as_slice()),
         None => Ok(()),
     }
 }

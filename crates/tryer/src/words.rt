@@ -9,7 +9,7 @@ pub const MEMORY: u32 = 65536;
 // the steps that are allowed where no word says it
 const STEPS: u32 = 100000;
 
-// one more than the largest number that is taken in base 10: of more steps a try has a refusal to tell, up to here
+// numbers in base 10 are taken up to below this, though more fit 32 bits: what is refused may not change
 const MOST_TEN: u32 = 2684354560;
 
 // What the words ask: the start is that of a reset where no word says it.
@@ -48,7 +48,7 @@ fn said(words: &[Vec<u8>], k: usize) -> Option<&[u8]> {
 
 impl<'a> Asked<'a> {
     // Nothing where there are too many words, or one is no number.
-    pub fn by(words: &'a [Vec<u8>]) -> Option<Asked<'a>> {
+    pub fn of(words: &'a [Vec<u8>]) -> Option<Asked<'a>> {
         if words.len() > 6 {
             return None;
         }
