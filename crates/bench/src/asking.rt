@@ -1,170 +1,98 @@
-// asking.rt - what the arguments ask: the words, their numbers, and what is to be run next.
+// asking.rt - what the arguments ask: words, and what each says of the argument after it.
 // Means: nothing; proved safe.
 // Uses: running, stack_limit.  Source: [ours]; the lengths are those of [01 Calls and what they give back].
-use crate::running::{ALONE, DROPPING, HASHED, RECORDS, SINGLY, UNDONE};
-use std::io;
+use crate::running::Way;
 use std::rt::Files;
 
-// what the next argument is: a count or a word; a file's name; a length; the count of a word
-pub const ANY: u32 = 0;
-
-pub const IMAGE: u32 = 1;
-
-pub const MEMORY: u32 = 2;
-
-pub const JOURNAL: u32 = 3;
-
-pub const SPEED: u32 = 4;
-
-pub const UNDO: u32 = 5;
-
-pub const RECORD: u32 = 6;
-
-pub const DROP: u32 = 7;
-
-pub const SINGLE: u32 = 8;
-
-pub const ROM: u32 = 9;
-
-pub const NO_COUNT: u64 = 1000000000000;
-
-// What the arguments asked so far: the bytes that are lent, and the steps to run now, or NO_COUNT.
+// What an argument is: a file's name; how many bytes are lent; how many steps are to be run, and in which way.
 #[derive(Clone, Copy)]
-pub struct Asked {
-    pub next: u32,
-    pub loaded: bool,
+pub enum Word {
+    Image,
+    Memory,
+    Rom,
+    Journal,
+    Count(Way),
+}
+
+// What an argument asks.
+pub enum Asked<'a> {
+    Image(&'a [u8]),
+    Memory(usize),
+    Rom(usize),
+    Journal(usize),
+    Run(Way, u64),
+}
+
+impl Word {
+    // What the argument after this text is, if the text is a word.
+    pub fn of(text: &[u8]) -> Option<Word> {
+        match text {
+            b"image" => Some(Word::Image),
+            b"memory" => Some(Word::Memory),
+            b"rom" => Some(Word::Rom),
+            b"journal" => Some(Word::Journal),
+            b"speed" => Some(Word::Count(Way::Alone)),
+            b"undo" => Some(Word::Count(Way::Undone)),
+            b"records" => Some(Word::Count(Way::Records)),
+            b"dropping" => Some(Word::Count(Way::Dropping)),
+            b"singly" => Some(Word::Count(Way::Singly)),
+            _ => None,
+        }
+    }
+
+    // What the argument asks that has this text, if it has what is wanted there.
+    pub fn asked<'a>(self, rt: &(impl Files + Alloc), text: &'a [u8]) -> Option<Asked<'a>> {
+        match self {
+            Word::Image => Some(Asked::Image(text)),
+            Word::Memory => memory_length(rt, number(text)?).map(Asked::Memory),
+            Word::Rom => rom_length(number(text)?).map(Asked::Rom),
+            Word::Journal => journal_length(number(text)?).map(Asked::Journal),
+            Word::Count(way) => Some(Asked::Run(way, number(text)?)),
+        }
+    }
+}
+
+// How many bytes are lent of each.
+#[derive(Clone, Copy)]
+pub struct Lengths {
     pub memory: usize,
     pub rom: usize,
     pub journal: usize,
-    pub way: u32,
-    pub count: u64,
 }
 
-pub fn nothing() -> Asked {
-    Asked {
-        next: ANY,
-        loaded: false,
-        memory: 65536,
-        rom: 0,
-        journal: 1048576,
-        way: HASHED,
-        count: NO_COUNT,
+impl Lengths {
+    pub fn new() -> Lengths {
+        Lengths {
+            memory: 65536,
+            rom: 0,
+            journal: 1048576,
+        }
     }
-}
-
-fn is_word(text: &[u8], word: &[u8]) -> bool {
-    if text.len() != word.len() {
-        return false;
-    }
-    let mut same = true;
-    for i in 0..word.len() {
-        same = same & (text[i] == word[i]);
-    }
-    same
-}
-
-pub fn word_of(text: &[u8]) -> u32 {
-    if is_word(text, b"image") {
-        return IMAGE;
-    }
-    if is_word(text, b"memory") {
-        return MEMORY;
-    }
-    if is_word(text, b"rom") {
-        return ROM;
-    }
-    if is_word(text, b"journal") {
-        return JOURNAL;
-    }
-    if is_word(text, b"speed") {
-        return SPEED;
-    }
-    if is_word(text, b"undo") {
-        return UNDO;
-    }
-    if is_word(text, b"records") {
-        return RECORD;
-    }
-    if is_word(text, b"dropping") {
-        return DROP;
-    }
-    if is_word(text, b"singly") {
-        return SINGLE;
-    }
-    ANY
-}
-
-// A number that is read in base 10; NO_COUNT stands for what is none, and stays.
-fn with_digit(n: u64, c: u8) -> u64 {
-    let d = (c as u64 + 208) % 256;
-    if 9 < d {
-        return NO_COUNT;
-    }
-    if n < NO_COUNT / 10 {
-        return n * 10 + d;
-    }
-    NO_COUNT
 }
 
 // The number below a million millions that text spells in base 10.
-pub fn count_of(text: &[u8]) -> u64 {
-    if text.len() == 0 {
-        return NO_COUNT;
+fn number(text: &[u8]) -> Option<u64> {
+    if !text.iter().all(u8::is_ascii_digit) {
+        return None;
     }
-    let mut n: u64 = 0;
-    for i in 0..text.len() {
-        n = with_digit(n, text[i]);
-    }
-    n
+    let n = str::from_utf8(text).ok()?.parse::<u64>().ok()?;
+    (n < 1000000000000).then_some(n)
 }
 
-// The longest memory that the stack has room for, as far as that is told.
-fn most_memory(rt: &(impl Files + Alloc)) -> u64 {
-    if stack_limit::is_large(rt) {
-        return 16777216;
-    }
-    65536
+// The length of a memory, an even number. One above 65,536 is lent only where the stack is large, though it comes from the heap: what is
+// refused may not change.
+fn memory_length(rt: &(impl Files + Alloc), n: u64) -> Option<usize> {
+    let even = n % 2 == 0;
+    let fits = n <= 65536 || n <= 16777216 && stack_limit::is_large(rt);
+    (1024 <= n && even && fits).then_some(n as usize)
 }
 
-// Whether a number can be what the next argument is. A journal of fewer than 536 bytes has no room for a step.
-fn fits(rt: &(impl Files + Alloc), next: u32, n: u64) -> bool {
-    match next {
-        MEMORY => 1024 <= n && n <= most_memory(rt) && n % 2 == 0,
-        ROM => n <= 1048576 && n % 2 == 0,
-        JOURNAL => 536 <= n && n <= 1048576,
-        _ => n < NO_COUNT,
-    }
+// The length of a ROM, an even number.
+fn rom_length(n: u64) -> Option<usize> {
+    (n <= 1048576 && n % 2 == 0).then_some(n as usize)
 }
 
-fn way_of(next: u32) -> u32 {
-    match next {
-        SPEED => ALONE,
-        UNDO => UNDONE,
-        RECORD => RECORDS,
-        DROP => DROPPING,
-        SINGLE => SINGLY,
-        _ => HASHED,
-    }
-}
-
-// The number that the next argument is.
-pub fn with_number(
-    rt: &(impl Files + Alloc + Eprint),
-    a: Asked,
-    next: u32,
-    n: u64,
-) -> io::Result<Asked> {
-    if !fits(rt, next, n) {
-        rt.eprintln("bench: an argument is no count, or no length that can be lent")?;
-        return Ok(a);
-    }
-    let mut q = a;
-    match next {
-        MEMORY => q.memory = n as usize,
-        ROM => q.rom = n as usize,
-        JOURNAL => q.journal = n as usize,
-        _ => q.count = n,
-    }
-    q.way = way_of(next);
-    Ok(q)
+// The length of a journal. One of fewer than 536 bytes has no room for a step.
+fn journal_length(n: u64) -> Option<usize> {
+    (536 <= n && n <= 1048576).then_some(n as usize)
 }

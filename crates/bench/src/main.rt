@@ -17,233 +17,142 @@
 mod asking;
 mod running;
 
-use asking::{ANY, Asked, IMAGE, NO_COUNT};
-use bus::Window;
-use codes::SLOTS;
-use console::{argument, argument_count, opened, tell_failed};
-use running::{DROPPING, HASHED, Progress, SINGLY};
-use std::io;
+use asking::{Asked, Lengths, Word};
+use console::{arguments, opened, tell_failed};
+use running::{Lent, Progress, Way, hash_of};
+use std::fmt::{Display, Formatter};
 use std::io::Read;
+use std::{fmt, io};
 
-// Reads an image; the bytes after it are 0.
-fn load(from: &mut impl Read, image: &mut [u8; 65536]) -> io::Result<()> {
-    *image = [0u8; 65536];
-    console::read_full(from, image)?;
-    Ok(())
+// how many bytes an image has: those after the file's are 0
+const IMAGE: usize = 65536;
+
+fn read_image(rt: &impl AllocGlobal, from: &mut impl Read) -> io::Result<Vec<u8>> {
+    let mut image = vec![in rt.alloc(); 0; IMAGE]?;
+    console::read_full(from, image.as_mut_slice())?;
+    Ok(image)
 }
 
-fn load_file(rt: &HostRuntime, path: &[u8], image: &mut [u8; 65536]) -> io::Result<()> {
-    match opened(rt, path) {
-        Ok(mut file) => load(&mut file, image),
-        Err(e) => tell_failed(rt, path, &e),
+// ---- a run
+
+// Numbers in base 16, with commas between.
+#[derive(Clone, Copy)]
+struct Listed<'a>(&'a [u32]);
+
+impl Display for Listed<'_> {
+    fn fmt<W: fmt::Write>(&self, f: &mut Formatter<W>) -> fmt::Result {
+        for (i, n) in self.0.iter().enumerate() {
+            if i > 0 {
+                f.write_str(",")?;
+            }
+            write!(f, "{n:x}")?;
+        }
+        Ok(())
     }
 }
 
-fn write_slot(rt: &impl Print, value: u32) -> io::Result<()> {
-    print!(rt; "{value:x}")
-}
-
-// The slots in base 16, with commas between.
-fn write_slots(rt: &impl Print, slots: &[u32; SLOTS]) -> io::Result<()> {
-    write_slot(rt, slots[0])?;
-    for i in 1..SLOTS {
-        rt.write_all(b",")?;
-        write_slot(rt, slots[i])?;
+// What a run gave, before its clocks and slots. Where records are dropped the hash is that of all the journal.
+fn tell_run(rt: &impl Print, way: Way, p: Progress, lent: &Lent) -> io::Result<()> {
+    match way {
+        Way::Hashed => print!(rt;
+            "steps {} journal {} jhash {:08x} memhash {:08x} ",
+            p.steps,
+            p.bytes,
+            p.hash,
+            hash_of(lent.memory.as_slice())
+        ),
+        Way::Dropping | Way::Singly => print!(rt;
+            "steps {} mark {} jhash {:08x} memhash {:08x} moved {} dropped {} ",
+            p.steps,
+            p.mark,
+            hash_of(lent.journal.as_slice()),
+            hash_of(lent.memory.as_slice()),
+            p.moved,
+            p.dropped
+        ),
+        Way::Alone | Way::Undone | Way::Records => Ok(()),
     }
-    rt.write_all(b"\n")
 }
 
-fn write_number(rt: &impl Print, label: &[u8], n: u64) -> io::Result<()> {
-    rt.write_all(label)?;
-    rt.print(n)
-}
-
-fn write_hash(rt: &impl Print, label: &[u8], hash: u32) -> io::Result<()> {
-    rt.write_all(label)?;
-    print!(rt; "{hash:08x}")
-}
-
-fn write_progress(rt: &impl Print, p: Progress, memory: &[u8]) -> io::Result<()> {
-    write_number(rt, b"steps ", p.steps)?;
-    write_number(rt, b" journal ", p.bytes)?;
-    write_hash(rt, b" jhash ", p.hash)?;
-    write_hash(rt, b" memhash ", running::hash_of(memory))?;
-    rt.write_all(b" ")
-}
-
-// What is told where records are dropped: of the journal all bytes.
-fn write_dropped(rt: &impl Print, p: Progress, memory: &[u8], journal: &[u8]) -> io::Result<()> {
-    write_number(rt, b"steps ", p.steps)?;
-    write_number(rt, b" mark ", p.mark as u64)?;
-    write_hash(rt, b" jhash ", running::hash_of(journal))?;
-    write_hash(rt, b" memhash ", running::hash_of(memory))?;
-    write_number(rt, b" moved ", p.moved)?;
-    write_number(rt, b" dropped ", p.dropped)?;
-    rt.write_all(b" ")
-}
-
-// Runs what is asked, on the memory, the ROM and the journal that are lent.
-fn run_asked(
-    rt: &impl Print,
-    a: Asked,
-    memory: &mut [u8],
-    rom: &[u8],
-    journal: &mut [u8],
+// Runs so many steps on a memory that begins with the image.
+fn run(
+    rt: &(impl Print + AllocGlobal),
+    image: &[u8],
+    lengths: Lengths,
+    way: Way,
+    count: u64,
 ) -> io::Result<()> {
-    let mut slots = [0u32; SLOTS];
-    let r = machine::reset(&mut slots, memory, rom);
-    let win = Window { lo: r.lo, hi: r.hi };
-    let p = running::start(a.count);
-    let q = running::run_all(rt, p, &mut slots, win, memory, rom, journal, a.way)?;
-    if a.way == HASHED {
-        write_progress(rt, q, memory)?;
-    }
-    if (a.way == DROPPING) | (a.way == SINGLY) {
-        write_dropped(rt, q, memory, journal)?;
-    }
-    write_number(rt, b"clocks ", q.clocks)?;
-    rt.write_all(b" state ")?;
-    write_slots(rt, &slots)
+    let mut memory = Vec::from_slice(rt.alloc(), image)?;
+    memory.resize(lengths.memory, 0)?;
+    let rom = vec![in rt.alloc(); 0; lengths.rom]?;
+    let journal = vec![in rt.alloc(); 0; lengths.journal]?;
+    let mut lent = Lent::new(memory, rom, journal);
+    let p = running::run_all(rt, &mut lent, way, count)?;
+    tell_run(rt, way, p, &lent)?;
+    println!(rt; "clocks {} state {}", p.clocks, Listed(&lent.slots))
 }
 
-// Lends as much of each as is asked.
-fn run_lent(
-    rt: &impl Print,
-    a: Asked,
-    memory: &mut [u8],
-    rom: &[u8],
-    journal: &mut [u8],
-) -> io::Result<()> {
-    let m = a.memory;
-    let r = a.rom;
-    let j = a.journal;
-    if memory.len() < m {
-        return Ok(());
-    }
-    if rom.len() < r {
-        return Ok(());
-    }
-    if journal.len() < j {
-        return Ok(());
-    }
-    run_asked(rt, a, &mut memory[0..m], &rom[0..r], &mut journal[0..j])
+// ---- the arguments
+
+// What the arguments asked so far: the image, once it was read, and how much is lent.
+#[derive(Drop)]
+struct Bench {
+    image: Option<Vec<u8>>,
+    lengths: Lengths,
 }
 
-fn copy(image: &[u8; 65536], memory: &mut [u8; 16777216]) {
-    for i in 0..65536usize {
-        memory[i] = image[i];
+impl Bench {
+    // Reads the image from a file. Where that can not be opened the image stays what it was, or is all 0.
+    fn load(&mut self, rt: &HostRuntime, path: &[u8]) -> io::Result<()> {
+        match opened(rt, path) {
+            Ok(mut file) => self.image = Some(read_image(rt, &mut file)?),
+            Err(e) => {
+                tell_failed(rt, path, &e)?;
+                self.image
+                    .get_or_try_insert_with(|| vec![in rt.alloc(); 0; IMAGE])?;
+            }
+        }
+        Ok(())
     }
-}
 
-fn lend_small(
-    rt: &impl Print,
-    a: Asked,
-    memory: &mut [u8; 65536],
-    rom: &[u8; 1048576],
-    journal: &mut [u8; 1048576],
-) -> io::Result<()> {
-    run_lent(rt, a, memory, rom, journal)
-}
-
-fn lend_large(
-    rt: &impl Print,
-    a: Asked,
-    memory: &mut [u8; 16777216],
-    rom: &[u8; 1048576],
-    journal: &mut [u8; 1048576],
-) -> io::Result<()> {
-    run_lent(rt, a, memory, rom, journal)
-}
-
-fn run_small(rt: &impl Print, a: Asked, image: &[u8; 65536]) -> io::Result<()> {
-    let mut memory = *image;
-    let rom = [0u8; 1048576];
-    let mut journal = [0u8; 1048576];
-    lend_small(rt, a, &mut memory, &rom, &mut journal)
-}
-
-fn run_large(rt: &impl Print, a: Asked, image: &[u8; 65536]) -> io::Result<()> {
-    let mut memory = [0u8; 16777216];
-    let rom = [0u8; 1048576];
-    let mut journal = [0u8; 1048576];
-    copy(image, &mut memory);
-    lend_large(rt, a, &mut memory, &rom, &mut journal)
-}
-
-// What an argument asks.
-fn obey(rt: &HostRuntime, a: Asked, text: &[u8], image: &mut [u8; 65536]) -> io::Result<Asked> {
-    let next = a.next;
-    let mut q = a;
-    q.next = ANY;
-    q.count = NO_COUNT;
-    if next == IMAGE {
-        load_file(rt, text, image)?;
-        q.loaded = true;
-        return Ok(q);
+    // Does what is asked. The image of a run is that of standard input if no file was named before.
+    fn obey(&mut self, rt: &HostRuntime, asked: Option<Asked>) -> io::Result<()> {
+        match asked {
+            Some(Asked::Image(path)) => self.load(rt, path)?,
+            Some(Asked::Memory(n)) => self.lengths.memory = n,
+            Some(Asked::Rom(n)) => self.lengths.rom = n,
+            Some(Asked::Journal(n)) => self.lengths.journal = n,
+            Some(Asked::Run(way, count)) => {
+                let image = self
+                    .image
+                    .get_or_try_insert_with(|| read_image(rt, &mut rt.reader()))?;
+                run(rt, image.as_slice(), self.lengths, way, count)?;
+            }
+            None => rt.eprintln("bench: an argument is no count, or no length that can be lent")?,
+        }
+        Ok(())
     }
-    if next == ANY {
-        q.next = asking::word_of(text);
-    }
-    if q.next != ANY {
-        return Ok(q);
-    }
-    asking::with_number(rt, q, next, asking::count_of(text))
-}
-
-// Before the first count: the image, if no file was named.
-fn with_image(rt: &impl Input, a: Asked, image: &mut [u8; 65536]) -> io::Result<Asked> {
-    if a.loaded || a.count == NO_COUNT {
-        return Ok(a);
-    }
-    load(&mut rt.reader(), image)?;
-    let mut q = a;
-    q.loaded = true;
-    Ok(q)
-}
-
-fn obey_argument(
-    rt: &HostRuntime,
-    i: usize,
-    a: Asked,
-    image: &mut [u8; 65536],
-) -> io::Result<Asked> {
-    let mut text = [0u8; 4096];
-    let n = argument(rt, i, &mut text);
-    let q = obey(rt, a, &text[..n], image)?;
-    with_image(rt, q, image)
-}
-
-// Obeys the arguments from one place to before another, by halves. A compiler puts no large frame of another function
-// into that of one that calls itself: so a memory of 16 MiB is on the stack only while it is used.
-fn obey_between(
-    rt: &HostRuntime,
-    from: usize,
-    to: usize,
-    a: Asked,
-    image: &mut [u8; 65536],
-) -> io::Result<Asked> {
-    if to <= from {
-        return Ok(a);
-    }
-    let half = (to - from) / 2;
-    if 0 < half {
-        let q = obey_between(rt, from, from + half, a, image)?;
-        return obey_between(rt, from + half, to, q, image);
-    }
-    let q = obey_argument(rt, from, a, image)?;
-    if q.count == NO_COUNT {
-        return Ok(q);
-    }
-    if q.memory <= 65536 {
-        run_small(rt, q, image)?;
-        return Ok(q);
-    }
-    run_large(rt, q, image)?;
-    Ok(q)
 }
 
 fn main(rt: HostRuntime) -> io::Result<()> {
-    let mut image = [0u8; 65536];
-    obey_between(&rt, 1, argument_count(&rt), asking::nothing(), &mut image)?;
+    let texts = arguments(&rt)?;
+    let mut bench = Bench {
+        image: None,
+        lengths: Lengths::new(),
+    };
+    let mut word = None;
+    for text in &texts {
+        let text = text.as_slice();
+        let before = word.take();
+        if before.is_none() {
+            word = Word::of(text);
+        }
+        if word.is_none() {
+            bench.obey(
+                &rt,
+                before.unwrap_or(Word::Count(Way::Hashed)).asked(&rt, text),
+            )?;
+        }
+    }
     Ok(())
 }

@@ -1,34 +1,199 @@
 // running.rt - runs of many steps from a reset: with a journal that starts again when it is full, or whose oldest records are dropped.
 // Means: nothing; proved safe.
-// Uses: codes, keeping, machine.  Source: [01 Calls and what they give back], [K5]; the hash is FNV-1a of 32 bits.
+// Uses: bus, calls, codes, keeping, machine.  Source: [01 Calls and what they give back], [K5]; the hash is FNV-1a of 32 bits.
+ghost use Rattle.std.specs.Prelude.{◌<◌};
+
 use bus::Window;
+use calls::{RunAnswer, StepAnswer};
 use codes::SLOTS;
-use std::io;
+use std::fmt::{Display, Formatter};
+use std::{fmt, io};
 
 // no program reaches this address
 const STOP: u32 = 4294967295;
 
+// the largest budget that a run takes
+const BUDGET: u64 = 1000000;
+
+// How steps are run. All records are kept, and the journal starts again: with its hash; the steps alone; each undone once and done again;
+// with the records themselves. Or the oldest records are dropped: by runs; by single steps.
+#[derive(Clone, Copy, PartialEq, Eq)]
+pub enum Way {
+    Hashed,
+    Alone,
+    Undone,
+    Records,
+    Dropping,
+    Singly,
+}
+
+// ---- hashes and bytes
+
 const HASH_START: u32 = 2166136261;
 
-// how steps are run. All records are kept, and the journal starts again: with its hash; the steps alone; each undone once and done again;
-// with the records themselves. Or the oldest records are dropped: by runs; by single steps
-pub const HASHED: u32 = 0;
+fn hashed(hash: u32, bytes: &[u8]) -> u32 {
+    bytes
+        .iter()
+        .fold(hash, |h, &b| (h ^ u32::from(b)).wrapping_mul(16777619))
+}
 
-pub const ALONE: u32 = 1;
+pub fn hash_of(bytes: &[u8]) -> u32 {
+    hashed(HASH_START, bytes)
+}
 
-pub const UNDONE: u32 = 2;
+// Bytes in base 16, with nothing between.
+#[derive(Clone, Copy)]
+struct Digits<'a>(&'a [u8]);
 
-pub const RECORDS: u32 = 3;
+impl Display for Digits<'_> {
+    fn fmt<W: fmt::Write>(&self, f: &mut Formatter<W>) -> fmt::Result {
+        for b in self.0 {
+            write!(f, "{b:02x}")?;
+        }
+        Ok(())
+    }
+}
 
-pub const DROPPING: u32 = 4;
+// ---- a part of a run
 
-pub const SINGLY: u32 = 5;
+// What a call did: its steps, the journal's mark after it, its clocks, the bytes that it moved and the records that it dropped.
+#[derive(Clone, Copy)]
+struct Part {
+    steps: u64,
+    mark: usize,
+    clocks: u64,
+    moved: u64,
+    dropped: u64,
+}
 
-// How far a run is: steps to do, steps done, journal bytes written and their hash, clocks. Where steps are undone and done again
-// each counts its clocks both times. Where records are dropped: the mark, and the sums of bytes moved and of records dropped.
+impl From<RunAnswer> for Part {
+    fn from(a: RunAnswer) -> Part {
+        Part {
+            steps: u64::from(a.steps),
+            mark: a.mark,
+            clocks: u64::from(a.clocks),
+            moved: a.moved,
+            dropped: a.dropped,
+        }
+    }
+}
+
+impl From<StepAnswer> for Part {
+    fn from(a: StepAnswer) -> Part {
+        Part {
+            steps: u64::from(a.number == 0),
+            mark: a.mark,
+            clocks: u64::from(a.clocks),
+            moved: a.moved as u64,
+            dropped: a.dropped as u64,
+        }
+    }
+}
+
+// ---- what is lent
+
+// What the calls are lent.
+#[derive(Drop)]
+pub struct Lent {
+    pub slots: [u32; SLOTS],
+    win: Window,
+    pub memory: Vec<u8>,
+    rom: Vec<u8>,
+    pub journal: Vec<u8>,
+}
+
+impl Lent {
+    // Resets by the image that memory has.
+    pub fn new(memory: Vec<u8>, rom: Vec<u8>, journal: Vec<u8>) -> Lent {
+        let mut slots = [0; SLOTS];
+        let a = machine::reset(&mut slots, memory.as_slice(), rom.as_slice());
+        Lent {
+            slots,
+            win: Window { lo: a.lo, hi: a.hi },
+            memory,
+            rom,
+            journal,
+        }
+    }
+
+    // A run from the journal's start, until so many steps are done or the journal is full.
+    fn run_keeping(&mut self, left: u64) -> Part {
+        Part::from(keeping::run_keeping(
+            &mut self.slots,
+            self.win,
+            self.memory.as_mut_slice(),
+            self.rom.as_slice(),
+            left.min(BUDGET) as u32,
+            STOP,
+            self.journal.as_mut_slice(),
+            0,
+        ))
+    }
+
+    // Undoes all that the journal holds below the mark. Each record has a byte or more, so that there are no more undos than bytes.
+    fn undo_all(&mut self, mark: usize) {
+        let mut at = mark;
+        for _ in 0..mark {
+            if at == 0 {
+                return;
+            }
+            let a = machine::undo(
+                &mut self.slots,
+                self.win,
+                self.memory.as_mut_slice(),
+                self.rom.as_slice(),
+                self.journal.as_slice(),
+                at,
+            );
+            if a.number != 0 {
+                return;
+            }
+            at = a.mark;
+        }
+    }
+
+    // A run that drops the oldest records.
+    fn run_dropping(&mut self, left: u64, mark: usize) -> Part {
+        Part::from(machine::run(
+            &mut self.slots,
+            self.win,
+            self.memory.as_mut_slice(),
+            self.rom.as_slice(),
+            left.min(BUDGET) as u32,
+            STOP,
+            self.journal.as_mut_slice(),
+            mark,
+        ))
+    }
+
+    // A step that does.
+    fn step_dropping(&mut self, mark: usize) -> Part {
+        Part::from(machine::step(
+            &mut self.slots,
+            self.win,
+            self.memory.as_mut_slice(),
+            self.rom.as_slice(),
+            0,
+            0,
+            self.journal.as_mut_slice(),
+            mark,
+        ))
+    }
+
+    // The journal's bytes below the mark.
+    fn records(&self, mark: usize) -> &[u8] {
+        let journal = self.journal.as_slice();
+        journal.get(..mark).unwrap_or(journal)
+    }
+}
+
+// ---- a whole run
+
+// How far a run is: steps to do, steps done, journal bytes written and their hash, clocks, the mark, and the sums of bytes moved and of
+// records dropped. Where steps are undone and done again each counts its clocks both times.
 #[derive(Clone, Copy)]
 pub struct Progress {
-    pub left: u64,
+    left: u64,
     pub steps: u64,
     pub bytes: u64,
     pub hash: u32,
@@ -38,282 +203,58 @@ pub struct Progress {
     pub dropped: u64,
 }
 
-pub fn start(count: u64) -> Progress {
-    Progress {
-        left: count,
-        steps: 0,
-        bytes: 0,
-        hash: HASH_START,
-        clocks: 0,
-        mark: 0,
-        moved: 0,
-        dropped: 0,
+impl Progress {
+    fn new(count: u64) -> Progress {
+        Progress {
+            left: count,
+            steps: 0,
+            bytes: 0,
+            hash: HASH_START,
+            clocks: 0,
+            mark: 0,
+            moved: 0,
+            dropped: 0,
+        }
+    }
+
+    // Counts a part. Nothing is left to do after one that did no step.
+    fn count(&mut self, part: Part)
+        requires { 0 < self.old.left }
+        ensures { self.new.left < self.old.left }
+    {
+        self.left = match part.steps {
+            0 => 0,
+            steps => self.left.saturating_sub(steps),
+        };
+        self.steps = self.steps.saturating_add(part.steps);
+        self.bytes = self.bytes.saturating_add(part.mark as u64);
+        self.clocks = self.clocks.saturating_add(part.clocks);
+        self.mark = part.mark;
+        self.moved = self.moved.saturating_add(part.moved);
+        self.dropped = self.dropped.saturating_add(part.dropped);
     }
 }
 
-fn times_prime(x: u32) -> u32 {
-    (x as u64 * 16777619 % 4294967296) as u32
-}
-
-fn with_byte(hash: u32, b: u8) -> u32 {
-    times_prime(hash ^ b as u32)
-}
-
-fn hashed(hash: u32, bytes: &[u8]) -> u32 {
-    let mut h = hash;
-    for i in 0..bytes.len() {
-        h = with_byte(h, bytes[i]);
+// Runs so many steps. A write that fails is the only error.
+pub fn run_all(rt: &impl Print, lent: &mut Lent, way: Way, count: u64) -> io::Result<Progress> {
+    let mut progress = Progress::new(count);
+    while progress.left > 0 {
+        if way == Way::Undone {
+            let part = lent.run_keeping(progress.left);
+            lent.undo_all(part.mark);
+            progress.clocks = progress.clocks.saturating_add(part.clocks);
+        }
+        let part = match way {
+            Way::Dropping => lent.run_dropping(progress.left, progress.mark),
+            Way::Singly => lent.step_dropping(progress.mark),
+            _ => lent.run_keeping(progress.left),
+        };
+        progress.count(part);
+        match way {
+            Way::Hashed => progress.hash = hashed(progress.hash, lent.records(part.mark)),
+            Way::Records => println!(rt; "{}", Digits(lent.records(part.mark)))?,
+            _ => {}
+        }
     }
-    h
-}
-
-pub fn hash_of(bytes: &[u8]) -> u32 {
-    hashed(HASH_START, bytes)
-}
-
-fn write_byte(rt: &impl Print, b: u8) -> io::Result<()> {
-    print!(rt; "{b:02x}")
-}
-
-fn write_bytes(rt: &impl Print, bytes: &[u8]) -> io::Result<()> {
-    for i in 0..bytes.len() {
-        write_byte(rt, bytes[i])?;
-    }
-    rt.write_all(b"\n")
-}
-
-// The journal's first bytes, as many as the mark says, in a line.
-fn write_to(rt: &impl Print, journal: &[u8], mark: usize) -> io::Result<()> {
-    if journal.len() < mark {
-        return Ok(());
-    }
-    write_bytes(rt, &journal[0..mark])
-}
-
-// The journal's first bytes, as many as the mark says.
-fn hashed_to(hash: u32, journal: &[u8], mark: usize) -> u32 {
-    if journal.len() < mark {
-        return hash;
-    }
-    hashed(hash, &journal[0..mark])
-}
-
-// The largest budget that a run takes.
-fn budget(left: u64) -> u32 {
-    if left < 1000000 {
-        return left as u32;
-    }
-    1000000
-}
-
-// What a run did: its steps, the journal's mark after it, and its clocks.
-#[derive(Clone, Copy)]
-struct Part {
-    steps: u64,
-    mark: usize,
-    clocks: u64,
-}
-
-// A run until the steps are done or the journal is full.
-fn run_part(
-    left: u64,
-    slots: &mut [u32; SLOTS],
-    win: Window,
-    memory: &mut [u8],
-    rom: &[u8],
-    journal: &mut [u8],
-) -> Part {
-    let answer = keeping::run_keeping(slots, win, memory, rom, budget(left), STOP, journal, 0);
-    Part {
-        steps: answer.steps as u64,
-        mark: answer.mark,
-        clocks: answer.clocks as u64,
-    }
-}
-
-// After a part: nothing is left to do if it did no step.
-fn after(p: Progress, part: Part) -> Progress {
-    let mut next = p;
-    next.steps = std::num::wrapping_add_u64(p.steps, part.steps);
-    next.bytes = std::num::wrapping_add_u64(p.bytes, part.mark as u64);
-    next.clocks = std::num::wrapping_add_u64(p.clocks, part.clocks);
-    next.left = 0;
-    if part.steps == 0 {
-        return next;
-    }
-    if part.steps < p.left {
-        next.left = p.left - part.steps;
-    }
-    next
-}
-
-// The mark after an undo; 0 if it is refused.
-fn undo_once(
-    slots: &mut [u32; SLOTS],
-    win: Window,
-    memory: &mut [u8],
-    rom: &[u8],
-    journal: &[u8],
-    mark: usize,
-) -> usize {
-    let answer = machine::undo(slots, win, memory, rom, journal, mark);
-    if answer.number != 0 {
-        return 0;
-    }
-    answer.mark
-}
-
-// Undoes all that the journal holds.
-fn undo_all(
-    slots: &mut [u32; SLOTS],
-    win: Window,
-    memory: &mut [u8],
-    rom: &[u8],
-    journal: &[u8],
-    mark: usize,
-) {
-    let mut at = mark;
-    let mut turns = u64::MAX;
-    while turns > 0 && at > 0 {
-        at = undo_once(slots, win, memory, rom, journal, at);
-        turns -= 1;
-    }
-}
-
-// Where steps are to be undone: a run, and the undo of it. It answers the run's clocks.
-fn run_undone(
-    p: Progress,
-    slots: &mut [u32; SLOTS],
-    win: Window,
-    memory: &mut [u8],
-    rom: &[u8],
-    journal: &mut [u8],
-    way: u32,
-) -> u64 {
-    if way != UNDONE {
-        return 0;
-    }
-    let part = run_part(p.left, slots, win, memory, rom, journal);
-    undo_all(slots, win, memory, rom, journal, part.mark);
-    part.clocks
-}
-
-fn run_kept(
-    rt: &impl Print,
-    p: Progress,
-    slots: &mut [u32; SLOTS],
-    win: Window,
-    memory: &mut [u8],
-    rom: &[u8],
-    journal: &mut [u8],
-    way: u32,
-) -> io::Result<Progress> {
-    let undone = run_undone(p, slots, win, memory, rom, journal, way);
-    let part = run_part(p.left, slots, win, memory, rom, journal);
-    let mut next = after(p, part);
-    next.clocks = std::num::wrapping_add_u64(next.clocks, undone);
-    if way == RECORDS {
-        write_to(rt, journal, part.mark)?;
-    }
-    if way == HASHED {
-        next.hash = hashed_to(p.hash, journal, part.mark);
-    }
-    Ok(next)
-}
-
-// After a call that drops records: its mark, and its bytes and records with those before it.
-fn after_drop(p: Progress, part: Part, moved: u64, dropped: u64) -> Progress {
-    let mut next = after(p, part);
-    next.mark = part.mark;
-    next.moved = std::num::wrapping_add_u64(p.moved, moved);
-    next.dropped = std::num::wrapping_add_u64(p.dropped, dropped);
-    next
-}
-
-fn run_dropping(
-    p: Progress,
-    slots: &mut [u32; SLOTS],
-    win: Window,
-    memory: &mut [u8],
-    rom: &[u8],
-    journal: &mut [u8],
-) -> Progress {
-    let answer = machine::run(
-        slots,
-        win,
-        memory,
-        rom,
-        budget(p.left),
-        STOP,
-        journal,
-        p.mark,
-    );
-    let part = Part {
-        steps: answer.steps as u64,
-        mark: answer.mark,
-        clocks: answer.clocks as u64,
-    };
-    after_drop(p, part, answer.moved, answer.dropped)
-}
-
-// The steps that a call of `step` did.
-fn accepted(number: u32) -> u64 {
-    if number == 0 {
-        return 1;
-    }
-    0
-}
-
-fn step_dropping(
-    p: Progress,
-    slots: &mut [u32; SLOTS],
-    win: Window,
-    memory: &mut [u8],
-    rom: &[u8],
-    journal: &mut [u8],
-) -> Progress {
-    let answer = machine::step(slots, win, memory, rom, 0, 0, journal, p.mark);
-    let part = Part {
-        steps: accepted(answer.number),
-        mark: answer.mark,
-        clocks: answer.clocks as u64,
-    };
-    after_drop(p, part, answer.moved as u64, answer.dropped as u64)
-}
-
-fn run_once(
-    rt: &impl Print,
-    p: Progress,
-    slots: &mut [u32; SLOTS],
-    win: Window,
-    memory: &mut [u8],
-    rom: &[u8],
-    journal: &mut [u8],
-    way: u32,
-) -> io::Result<Progress> {
-    match way {
-        DROPPING => Ok(run_dropping(p, slots, win, memory, rom, journal)),
-        SINGLY => Ok(step_dropping(p, slots, win, memory, rom, journal)),
-        _ => run_kept(rt, p, slots, win, memory, rom, journal, way),
-    }
-}
-
-// Runs until the steps are done. A write that fails is the only error: slots, memory and journal are then as the steps so far left them.
-pub fn run_all(
-    rt: &impl Print,
-    p: Progress,
-    slots: &mut [u32; SLOTS],
-    win: Window,
-    memory: &mut [u8],
-    rom: &[u8],
-    journal: &mut [u8],
-    way: u32,
-) -> io::Result<Progress> {
-    let mut now = p;
-    let mut turns = u64::MAX;
-    while turns > 0 && now.left > 0 {
-        now = run_once(rt, now, slots, win, memory, rom, journal, way)?;
-        turns -= 1;
-    }
-    Ok(now)
+    Ok(progress)
 }

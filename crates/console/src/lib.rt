@@ -1,65 +1,43 @@
-// lib.rt - what programs for a person share: text and numbers on standard output and error, what an input still has, slots by name.
-// Means: nothing; proved safe. Addresses have six digits or more of base 16, bytes two.
+// lib.rt - what programs for a person share: their arguments, what an input has, files that can not be opened; counts and bytes as text.
+// Means: nothing; proved safe.
 // Uses: codes.  Source: [ours].
 #![tactic(auto)]
 
 pub mod slots;
 
-ghost use Rattle.std.specs.Prelude.{◌≤◌, length, IfOk};
+ghost use Rattle.std.specs.Prelude.{◌≤◌, length, vec_len, All, IfOk, IfSome};
 
 use std::env::{Env, FillError};
+use std::fmt::{Display, Formatter};
 use std::fs::File;
-use std::io;
 use std::io::Read;
+use std::{fmt, io};
 
-// ---- standard output
-
-pub fn text(rt: &impl Print, t: &[u8]) -> io::Result<()> {
-    rt.write_all(t)
-}
-
-pub fn decimal(rt: &impl Print, n: u64) -> io::Result<()> {
-    rt.print(n)
-}
-
-// In base 16, with zeros in front up to width digits; a width of 0 counts as 1, and one above 16 as 16.
-pub fn hex(rt: &impl Print, n: u64, width: usize) -> io::Result<()> {
-    let digits = width.min(16);
-    print!(rt; "{n:0digits$x}")
-}
-
-pub fn address(rt: &impl Print, a: u32) -> io::Result<()> {
-    hex(rt, a as u64, 6)
-}
-
-pub fn place(rt: &impl Print, i: usize) -> io::Result<()> {
-    hex(rt, i as u64, 6)
-}
-
-pub fn byte(rt: &impl Print, b: u8) -> io::Result<()> {
-    text(rt, b" ")?;
-    hex(rt, b as u64, 2)
-}
+// ---- text
 
 // So many of something, whose name here has no s at its end.
-pub fn counted(rt: &impl Print, n: u64, name: &[u8]) -> io::Result<()> {
-    decimal(rt, n)?;
-    text(rt, b" ")?;
-    text(rt, name)?;
-    if n != 1 {
-        text(rt, b"s")?;
+#[derive(Clone, Copy)]
+pub struct Counted<'a>(pub u64, pub &'a str);
+
+impl Display for Counted<'_> {
+    fn fmt<W: fmt::Write>(&self, f: &mut Formatter<W>) -> fmt::Result {
+        let Counted(n, name) = *self;
+        let end = if n == 1 { "" } else { "s" };
+        write!(f, "{n} {name}{end}")
     }
-    Ok(())
 }
 
-// ---- standard error
+// Bytes in base 16, with a space before each.
+#[derive(Clone, Copy)]
+pub struct Bytes<'a>(pub &'a [u8]);
 
-pub fn complain(rt: &HostRuntime, what: &[u8]) -> io::Result<()> {
-    rt.stderr().write_all(what)
-}
-
-pub fn complain_number(rt: &HostRuntime, n: u64) -> io::Result<()> {
-    rt.stderr().print(n)
+impl Display for Bytes<'_> {
+    fn fmt<W: fmt::Write>(&self, f: &mut Formatter<W>) -> fmt::Result {
+        for b in self.0 {
+            write!(f, " {b:02x}")?;
+        }
+        Ok(())
+    }
 }
 
 // ---- input
@@ -79,37 +57,44 @@ pub fn read_full(input: &mut impl Read, buf: &mut [u8]) -> io::Result<usize>
     Ok(done)
 }
 
-// Whether a file has a byte more, which is then read.
-pub fn file_has_more(file: &mut impl Read) -> io::Result<bool> {
-    let mut more = [0u8; 1];
-    Ok(read_full(file, &mut more)? != 0)
-}
-
-// Whether standard input has.
-pub fn has_more(rt: &impl Input) -> io::Result<bool> {
-    file_has_more(&mut rt.reader())
+// All bytes that an input has, or none where it has more than so many.
+pub fn read_at_most<R: AllocGlobal>(
+    rt: &R,
+    input: &mut impl Read,
+    most: usize,
+) -> io::Result<Option<Vec<u8>>>
+    ensures { IfOk result (λ read. IfSome read (λ bytes. vec_len bytes ≤ most)) }
+{
+    let mut bytes = Vec::new(rt.alloc());
+    let limit = (most as u64).saturating_add(1);
+    input.by_ref().take(limit).read_to_end(&mut bytes)?;
+    if bytes.len() <= most {
+        Ok(Some(bytes))
+    } else {
+        Ok(None)
+    }
 }
 
 // ---- arguments
 
-// Puts argument i at the start of text, and answers its length: 0 where it is missing or longer than text.
-pub fn argument(rt: &impl Env, i: usize, text: &mut [u8]) -> usize
-    ensures { result ≤ length text.new }
-{
-    match rt.arg(i, text) {
-        Ok(n) => n,
-        Err(_) => 0,
-    }
-}
+// An argument that is longer counts as empty.
+const LONGEST: usize = 4096;
 
-// How many arguments there are, with the program's name.
-pub fn argument_count(rt: &impl Env) -> usize {
-    for i in 0..usize::MAX {
-        if let Err(FillError::NotPresent) = rt.arg(i, &mut []) {
-            return i;
-        }
+// The arguments after the program's name. They are bytes, which need not be text.
+pub fn arguments<R: Env + AllocGlobal>(rt: &R) -> io::Result<Vec<Vec<u8>>>
+    ensures { IfOk result (λ all. All (λ text. vec_len text ≤ 4096) all.items) }
+{
+    let mut all = Vec::new(rt.alloc());
+    let mut text = [0u8; LONGEST];
+    for i in 1..usize::MAX {
+        let n = match rt.arg(i, &mut text) {
+            Ok(n) => n,
+            Err(FillError::TooLong) => 0,
+            Err(FillError::NotPresent) => break,
+        };
+        all.push(Vec::from_slice(rt.alloc(), &text[..n])?)?;
     }
-    usize::MAX
+    Ok(all)
 }
 
 // ---- files that an argument names
@@ -122,19 +107,34 @@ pub fn opened(rt: &HostRuntime, path: &[u8]) -> io::Result<File> {
     }
 }
 
-// The system's words for an error, from a text that may have its number behind them.
-fn words_of(text: &str) -> &str {
-    match text.split_once(" (os error ") {
-        Some((words, _)) => words,
-        None => text,
-    }
+// Tells on standard error why a file can not be opened: the system's words for the error, without its number behind them.
+pub fn tell_failed(rt: &HostRuntime, path: &[u8], e: &io::Error) -> io::Result<()> {
+    let text = e.to_string(rt.alloc())?;
+    let words = text
+        .split_once(" (os error ")
+        .map_or(text.as_str(), |(words, _)| words);
+    rt.stderr().write_all(path)?;
+    eprintln!(rt; ": {words}")
 }
 
-// Tells on standard error why a file can not be opened.
-pub fn tell_failed(rt: &HostRuntime, path: &[u8], e: &io::Error) -> io::Result<()> {
-    let text = format!(in rt.alloc(); "{e}")?;
-    let told = rt.stderr();
-    told.write_all(path)?;
-    told.print(": ")?;
-    told.println(words_of(text.as_str()))
+#[cfg(test)]
+mod tests {
+    use super::*;
+    use std::test::Fail;
+
+    #[test]
+    fn input_is_read_up_to_a_length(rt: HostRuntime) -> Result<(), Fail> {
+        let mut input = b"four".as_slice();
+        let bytes = read_at_most(&rt, &mut input, 4)?;
+        assert!(rt; bytes.is_some_and(|bytes| bytes.as_slice() == b"four".as_slice()));
+        let mut input = b"four".as_slice();
+        assert!(rt; read_at_most(&rt, &mut input, 3)?.is_none());
+        Ok(())
+    }
+
+    #[test]
+    fn a_test_has_few_arguments(rt: HostRuntime) -> Result<(), Fail> {
+        assert!(rt; arguments(&rt)?.len() < 100);
+        Ok(())
+    }
 }

@@ -1,41 +1,36 @@
 // slots.rt - the slots by name, and what they hold, for a person.
 // Means: nothing; proved safe.
-// Uses: codes, console.  Source: [01 The journal], its table of slots.
-use crate::{hex, text};
-use std::io;
+// Uses: codes.  Source: [01 The journal], its table of slots.
+use std::fmt;
+use std::fmt::{Display, Formatter};
 
-// D0 to D7, A0 to A6: a letter and a digit.
-fn lettered(rt: &impl Print, letter: u8, k: usize) -> io::Result<()> {
-    let digit = 48 + (k % 8) as u8;
-    let name = [letter, digit];
-    text(rt, &name)
-}
+const NAMES: [&str; codes::SLOTS] = [
+    "D0", "D1", "D2", "D3", "D4", "D5", "D6", "D7", "A0", "A1", "A2", "A3", "A4", "A5", "A6",
+    "USP", "SSP", "PC", "SR", "mode",
+];
 
-pub fn name(rt: &impl Print, k: usize) -> io::Result<()> {
-    match k {
-        0..=7 => lettered(rt, b'D', k),
-        8..=14 => lettered(rt, b'A', k),
-        codes::USP => text(rt, b"USP"),
-        codes::SSP => text(rt, b"SSP"),
-        codes::PC => text(rt, b"PC"),
-        codes::SR => text(rt, b"SR"),
-        _ => text(rt, b"mode"),
+// A slot by its number, as its name.
+#[derive(Clone, Copy)]
+pub struct Name(pub usize);
+
+impl Display for Name {
+    fn fmt<W: fmt::Write>(&self, f: &mut Formatter<W>) -> fmt::Result {
+        f.pad(NAMES.get(self.0).copied().unwrap_or("mode"))
     }
 }
 
-fn mode(rt: &impl Print, m: u32) -> io::Result<()> {
-    match m {
-        codes::RUNNING => text(rt, b"running"),
-        codes::STOPPED => text(rt, b"stopped"),
-        _ => text(rt, b"halted"),
-    }
-}
+// What a slot holds: SR with four digits of base 16, the mode in words, all others with eight digits.
+#[derive(Clone, Copy)]
+pub struct Value(pub usize, pub u32);
 
-// What slot k holds: SR with four digits of base 16, the mode in words, all others with eight digits.
-pub fn value(rt: &impl Print, k: usize, v: u32) -> io::Result<()> {
-    match k {
-        codes::SR => hex(rt, v as u64, 4),
-        codes::MODE => mode(rt, v),
-        _ => hex(rt, v as u64, 8),
+impl Display for Value {
+    fn fmt<W: fmt::Write>(&self, f: &mut Formatter<W>) -> fmt::Result {
+        match *self {
+            Value(codes::SR, v) => write!(f, "{v:04x}"),
+            Value(codes::MODE, codes::RUNNING) => f.write_str("running"),
+            Value(codes::MODE, codes::STOPPED) => f.write_str("stopped"),
+            Value(codes::MODE, _) => f.write_str("halted"),
+            Value(_, v) => write!(f, "{v:08x}"),
+        }
     }
 }

@@ -3,7 +3,7 @@
 // Uses: console, nine.  Source: [01 Set down and proved].
 #![tactic(auto)]
 
-use console::{argument, argument_count, opened, tell_failed};
+use console::{arguments, opened, tell_failed};
 use std::io;
 
 // The lines of one image, or why it can not be opened.
@@ -21,10 +21,9 @@ fn show(rt: &HostRuntime, path: &[u8]) -> io::Result<()> {
 }
 
 fn main(rt: HostRuntime) -> io::Result<()> {
-    for i in 1..argument_count(&rt) {
-        let mut path = [0u8; 4096];
-        let n = argument(&rt, i, &mut path);
-        show(&rt, &path[..n])?;
+    let paths = arguments(&rt)?;
+    for path in &paths {
+        show(&rt, path.as_slice())?;
     }
     Ok(())
 }

@@ -1,110 +1,103 @@
-// names.rt - the name of an operation word as two numbers, stem and ending, and the two as text.
+// names.rt - the name of an operation word: its stem, and an ending that tells a size or a condition.
 // Means: nothing; see main.rt.
 // Uses: decode, kind_table.  Source: [003 B], [003 A-2] the conditions' letters.
 use decode::kinds;
-use std::io;
+use std::fmt;
+use std::fmt::{Display, Formatter};
 
-// stems that no kind has: BTST BCHG BCLR BSET, then ASR ASL LSR LSL ROXR ROXL ROR ROL
-const BIT_TEST: u32 = kinds::KINDS;
+// The stems of the kinds, in their order, with a dash for those of shifts and of single bits, which have several.
+const STEMS: &str =
+    "ILLEGAL LINEA LINEF MOVE MOVEA MOVEQ MOVEMtoMem MOVEMtoReg MOVEP MOVEP LEA PEA EXG EXG EXG SWAP LINK UNLK ADD ADD \
+        ADDA ADDI ADDQ ADDQ ADDX SUB SUB SUBA SUBI SUBQ SUBQ SUBX NEG NEGX CLR CMP CMPA CMPI CMPM MULS MULU DIVS DIVU \
+        EXT TAS TST AND AND ANDI OR OR ORI EOR EORI NOT - - - - ABCD SBCD NBCD B BRA BSR DB S JMP JSR NOP RTR RTS \
+        ANDItoCCR ANDItoSR EORItoCCR EORItoSR ORItoCCR ORItoSR MOVEfromSR MOVEtoCCR MOVEtoSR MOVEtoUSP MOVEfromUSP \
+        RESET RTE STOP TRAP TRAPV CHK";
 
-const SHIFT: u32 = BIT_TEST + 4;
+const BITS: [&str; 4] = ["BTST", "BCHG", "BCLR", "BSET"];
 
-// the kind whose name also stands for this kind
-fn namesake(kind: u32) -> u32 {
-    match kind {
-        kinds::ADD_TO_MEMORY => kinds::ADD_TO_REGISTER,
-        kinds::ADD_Q_A => kinds::ADD_Q,
-        kinds::SUB_TO_MEMORY => kinds::SUB_TO_REGISTER,
-        kinds::SUB_Q_A => kinds::SUB_Q,
-        kinds::AND_TO_MEMORY => kinds::AND_TO_REGISTER,
-        kinds::OR_TO_MEMORY => kinds::OR_TO_REGISTER,
-        kinds::MOVE_P_TO_MEMORY => kinds::MOVE_P_TO_REGISTER,
-        kinds::EXG_ADDRESS => kinds::EXG_DATA,
-        kinds::EXG_BOTH => kinds::EXG_DATA,
-        _ => kind,
+const SHIFTS: [&str; 8] = ["ASR", "ASL", "LSR", "LSL", "ROXR", "ROXL", "ROR", "ROL"];
+
+const SIZES: [&str; 3] = [".B", ".W", ".L"];
+
+const CONDITIONS: [&str; 16] = [
+    "T", "F", "HI", "LS", "CC", "CS", "NE", "EQ", "VC", "VS", "PL", "MI", "GE", "LT", "GT", "LE",
+];
+
+fn stem(op: u32) -> &'static str {
+    match kind_table::kind_of(op) {
+        kinds::BIT_DYNAMIC | kinds::BIT_STATIC => BITS[(op / 64 % 4) as usize],
+        kinds::SHIFT_REGISTER => SHIFTS[(op / 8 % 4 * 2 + op / 256 % 2) as usize],
+        kinds::SHIFT_MEMORY => SHIFTS[(op / 512 % 4 * 2 + op / 256 % 2) as usize],
+        kind => STEMS.split(' ').nth(kind as usize).unwrap_or("-"),
     }
 }
 
-// which of the names' stems: a kind, or one of the stems above
-fn stem(op: u32) -> u32 {
-    let kind = kind_table::kind_of(op);
-    match kind {
-        kinds::BIT_DYNAMIC | kinds::BIT_STATIC => BIT_TEST + op / 64 % 4,
-        kinds::SHIFT_REGISTER => SHIFT + op / 8 % 4 * 2 + op / 256 % 2,
-        kinds::SHIFT_MEMORY => SHIFT + op / 512 % 4 * 2 + op / 256 % 2,
-        _ => namesake(kind),
-    }
-}
-
-// the size of MOVE and MOVEA, by the line: 1 byte, 2 word, 3 long
-fn move_size(op: u32) -> u32 {
-    match op / 4096 {
-        1 => 1,
-        2 => 3,
-        _ => 2,
-    }
-}
-
-// which ending: 0 none, 1 to 3 a size, from 4 a condition
-fn ending(op: u32) -> u32 {
-    match namesake(kind_table::kind_of(op)) {
-        kinds::MOVE | kinds::MOVE_A => move_size(op),
+fn ending(op: u32) -> &'static str {
+    match kind_table::kind_of(op) {
+        kinds::MOVE | kinds::MOVE_A => match op / 4096 {
+            1 => ".B",
+            2 => ".L",
+            _ => ".W",
+        },
         kinds::MOVE_M_TO_MEMORY
         | kinds::MOVE_M_TO_REGISTERS
         | kinds::MOVE_P_TO_REGISTER
-        | kinds::EXT => 2 + op / 64 % 2,
-        kinds::ADD_A | kinds::SUB_A | kinds::CMP_A => 2 + op / 256 % 2,
-        kinds::SHIFT_MEMORY => 2,
-        kinds::BCC | kinds::DBCC | kinds::SCC => 4 + op / 256 % 16,
-        kinds::ADD_TO_REGISTER | kinds::ADD_I | kinds::ADD_Q | kinds::ADD_X => 1 + op / 64 % 4,
-        kinds::SUB_TO_REGISTER | kinds::SUB_I | kinds::SUB_Q | kinds::SUB_X => 1 + op / 64 % 4,
-        kinds::NEG | kinds::NEG_X | kinds::CLR | kinds::TST | kinds::NOT => 1 + op / 64 % 4,
-        kinds::CMP | kinds::CMP_I | kinds::CMP_M | kinds::SHIFT_REGISTER => 1 + op / 64 % 4,
-        kinds::AND_TO_REGISTER
+        | kinds::MOVE_P_TO_MEMORY
+        | kinds::EXT => SIZES[1 + (op / 64 % 2) as usize],
+        kinds::ADD_A | kinds::SUB_A | kinds::CMP_A => SIZES[1 + (op / 256 % 2) as usize],
+        kinds::SHIFT_MEMORY => ".W",
+        kinds::BCC | kinds::DBCC | kinds::SCC => CONDITIONS[(op / 256 % 16) as usize],
+        kinds::ADD_TO_REGISTER
+        | kinds::ADD_TO_MEMORY
+        | kinds::ADD_I
+        | kinds::ADD_Q
+        | kinds::ADD_Q_A
+        | kinds::ADD_X
+        | kinds::SUB_TO_REGISTER
+        | kinds::SUB_TO_MEMORY
+        | kinds::SUB_I
+        | kinds::SUB_Q
+        | kinds::SUB_Q_A
+        | kinds::SUB_X
+        | kinds::NEG
+        | kinds::NEG_X
+        | kinds::CLR
+        | kinds::TST
+        | kinds::NOT
+        | kinds::CMP
+        | kinds::CMP_I
+        | kinds::CMP_M
+        | kinds::SHIFT_REGISTER
+        | kinds::AND_TO_REGISTER
+        | kinds::AND_TO_MEMORY
         | kinds::AND_I
         | kinds::OR_TO_REGISTER
+        | kinds::OR_TO_MEMORY
         | kinds::OR_I
         | kinds::EOR
-        | kinds::EOR_I => 1 + op / 64 % 4,
-        _ => 0,
+        | kinds::EOR_I => SIZES.get((op / 64 % 4) as usize).copied().unwrap_or(""),
+        _ => "",
     }
 }
 
-// Whether two words have one name.
-pub fn same_name(a: u32, b: u32) -> bool {
-    (stem(a) == stem(b)) & (ending(a) == ending(b))
+#[derive(Clone, Copy, PartialEq, Eq)]
+pub struct Name {
+    stem: &'static str,
+    ending: &'static str,
 }
 
-// One letter of a list of names: it is written where no name is left to skip. How many are left to skip then.
-fn letter(rt: &impl Print, b: u8, left: u32) -> io::Result<u32> {
-    if b == b' ' {
-        return Ok(std::num::wrapping_sub_u32(left, 1));
+impl Name {
+    pub fn of(op: u32) -> Name {
+        Name {
+            stem: stem(op),
+            ending: ending(op),
+        }
     }
-    if left == 0 {
-        rt.write_all(&[b])?;
-    }
-    Ok(left)
 }
 
-// Writes name n of a list, counted from 0; names end with a space.
-fn write_nth(rt: &impl Print, list: &[u8], n: u32) -> io::Result<()> {
-    let mut left = n;
-    for i in 0..list.len() {
-        left = letter(rt, list[i], left)?;
+impl Display for Name {
+    fn fmt<W: fmt::Write>(&self, f: &mut Formatter<W>) -> fmt::Result {
+        let Name { stem, ending } = *self;
+        write!(f, "{stem}{ending}")
     }
-    Ok(())
-}
-
-// Writes the word's name. The stems stand in the order of the kinds, then those from BIT_TEST and from SHIFT on.
-pub fn write_name(rt: &impl Print, op: u32) -> io::Result<()> {
-    let stems =
-        b"ILLEGAL LINEA LINEF MOVE MOVEA MOVEQ MOVEMtoMem MOVEMtoReg MOVEP MOVEP LEA PEA EXG EXG EXG SWAP LINK \
-        UNLK ADD ADD ADDA ADDI ADDQ ADDQ ADDX SUB SUB SUBA SUBI SUBQ SUBQ SUBX NEG NEGX CLR CMP CMPA CMPI \
-        CMPM MULS MULU DIVS DIVU EXT TAS TST AND AND ANDI OR OR ORI EOR EORI NOT - - - - ABCD SBCD NBCD B \
-        BRA BSR DB S JMP JSR NOP RTR RTS ANDItoCCR ANDItoSR EORItoCCR EORItoSR ORItoCCR ORItoSR MOVEfromSR \
-        MOVEtoCCR MOVEtoSR MOVEtoUSP MOVEfromUSP RESET RTE STOP TRAP TRAPV CHK BTST BCHG BCLR BSET ASR ASL \
-        LSR LSL ROXR ROXL ROR ROL";
-    write_nth(rt, stems, stem(op))?;
-    let endings = b" .B .W .L T F HI LS CC CS NE EQ VC VS PL MI GE LT GT LE";
-    write_nth(rt, endings, ending(op))
 }

@@ -1,11 +1,54 @@
 // back.rt - the way back through a file, from its end to place 0, a record at a time.
 // Means: nothing; proved safe.
-// Uses: forms, record, runs, telling.  Source: [K8].
-use crate::telling;
+// Uses: forms, record, runs.  Source: [K8].
+ghost use Rattle.std.specs.Prelude.{◌<◌, ◌≤◌, length, IfSome, OnSome};
+ghost use Rattle.record.specs.Limits.{slot_limit, byte_limit};
+
 use forms::{Form, read_in};
 use record::limits::{BYTE_LIMIT, SLOT_LIMIT};
 use runs::Logged;
-use std::io;
+
+// The logs that the last record was read into, and the place where it starts: at first the file's end.
+#[derive(Drop)]
+pub struct Back<'a> {
+    form: Form,
+    file: &'a [u8],
+    pub end: usize,
+    pub slots: [u64; SLOT_LIMIT],
+    pub bytes: [u64; BYTE_LIMIT],
+    ghost inside: { end ≤ length file.now },
+}
+
+impl<'a> Back<'a> {
+    pub fn new(form: Form, file: &'a [u8]) -> Back<'a> {
+        Back {
+            form,
+            file,
+            end: file.len(),
+            slots: [0; SLOT_LIMIT],
+            bytes: [0; BYTE_LIMIT],
+        }
+    }
+
+    // Reads a record and goes back over it: there is none at place 0, nor where it is not well shaped.
+    pub fn read(&mut self) -> Option<Logged>
+        ensures nearer { OnSome result (self.new.end < self.old.end) }
+        ensures logged { IfSome result (λ r. (r.slots ≤ slot_limit) × (r.from ≤ r.to) × (r.to ≤ byte_limit)) }
+    {
+        if self.end == 0 {
+            return None;
+        }
+        let record = read_in(
+            self.form,
+            self.file,
+            self.end,
+            &mut self.slots,
+            &mut self.bytes,
+        )?;
+        self.end = record.start;
+        Some(record)
+    }
+}
 
 // How many records are well shaped on the way, and where it ends: at place 0, or just after one that is not well shaped.
 #[derive(Clone, Copy)]
@@ -15,36 +58,13 @@ pub struct Way {
 }
 
 pub fn way_of(form: Form, file: &[u8]) -> Way {
-    let mut slots = [0u64; SLOT_LIMIT];
-    let mut bytes = [0u64; BYTE_LIMIT];
-    let mut records: u64 = 0;
-    let mut end = file.len();
-    while 0 < end {
-        let Logged::Record(ns, i, n, start) = read_in(form, file, end, &mut slots, &mut bytes)
-        else {
-            return Way { records, end };
-        };
-        records = std::num::wrapping_add_u64(records, 1);
-        end = start;
+    let mut back = Back::new(form, file);
+    let mut records = 0u64;
+    while back.read().is_some() {
+        records = records.saturating_add(1);
     }
-    Way { records, end }
-}
-
-// Tells each of so many records, the newest first.
-pub fn tell_all(rt: &impl Print, form: Form, file: &[u8], records: u64) -> io::Result<()> {
-    let mut slots = [0u64; SLOT_LIMIT];
-    let mut bytes = [0u64; BYTE_LIMIT];
-    let mut step = records;
-    let mut end = file.len();
-    while 0 < end {
-        let Logged::Record(ns, i, n, start) = read_in(form, file, end, &mut slots, &mut bytes)
-        else {
-            return Ok(());
-        };
-        telling::step(rt, step, records)?;
-        telling::changes(rt, &slots, ns, &bytes, i, n)?;
-        step = std::num::wrapping_sub_u64(step, 1);
-        end = start;
+    Way {
+        records,
+        end: back.end,
     }
-    Ok(())
 }

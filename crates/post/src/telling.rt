@@ -1,9 +1,13 @@
 // telling.rt - what is told of a file and of each record, for a person who has not seen one before.
 // Means: nothing; proved safe.
-// Uses: console, forms.  Source: [K8], crates/post/README.md.
-use console::{byte, counted, decimal, place, slots, text};
+// Uses: back, complaints, console, forms.  Source: [K8], crates/post/README.md.
+use crate::back::Back;
+use crate::complaints::number;
+use console::Counted;
+use console::slots::{Name, Value};
 use forms::Form;
-use std::io;
+use std::fmt::{Display, Formatter};
+use std::{fmt, io};
 
 // A change of a log's entry: the slot or the address, and what it held.
 #[derive(Clone, Copy)]
@@ -12,115 +16,82 @@ struct Change {
     old: u32,
 }
 
-fn change_at(log: &[u64], k: usize) -> Change {
-    if log.len() <= k {
-        return Change { place: 0, old: 0 };
-    }
-    let e = log[k];
-    Change {
-        place: (e / 4294967296) as usize,
-        old: (e % 4294967296) as u32,
+impl From<u64> for Change {
+    fn from(entry: u64) -> Change {
+        Change {
+            place: (entry / 4294967296) as usize,
+            old: (entry % 4294967296) as u32,
+        }
     }
 }
 
-// ---- the file
+// Whether an entry has the address after that of another.
+fn is_next(a: u64, b: u64) -> bool {
+    Change::from(b).place == Change::from(a).place.wrapping_add(1)
+}
 
-fn form_name(rt: &impl Print, form: Form) -> io::Result<()> {
-    match form {
-        Form::One => text(rt, b"form 1"),
-        Form::Two => text(rt, b"form 2"),
+// What a record says: the entries of its slots and of its bytes.
+#[derive(Clone, Copy)]
+struct Changes<'a> {
+    slots: &'a [u64],
+    bytes: &'a [u64],
+}
+
+// What stands before an item of a list.
+fn comma(k: usize) -> &'static str {
+    if k == 0 { "" } else { ", " }
+}
+
+impl Display for Changes<'_> {
+    fn fmt<W: fmt::Write>(&self, f: &mut Formatter<W>) -> fmt::Result {
+        let Changes { slots, bytes } = *self;
+        if slots.is_empty() && bytes.is_empty() {
+            return f.write_str("it changed nothing");
+        }
+        f.write_str("before it ")?;
+        for (k, &entry) in slots.iter().enumerate() {
+            let Change { place, old } = Change::from(entry);
+            write!(f, "{}{} {}", comma(k), Name(place), Value(place, old))?;
+        }
+        if bytes.is_empty() {
+            return Ok(());
+        }
+        f.write_str(if slots.is_empty() {
+            "memory "
+        } else {
+            "; memory "
+        })?;
+        for (k, run) in bytes.chunk_by(|&a, &b| is_next(a, b)).enumerate() {
+            let first = run.first().map_or(0, |&entry| Change::from(entry).place);
+            write!(f, "{}{first:06x}:", comma(k))?;
+            for &entry in run {
+                write!(f, " {:02x}", Change::from(entry).old % 256)?;
+            }
+        }
+        Ok(())
     }
 }
 
-pub fn head(rt: &impl Print, form: Form, length: usize, records: u64) -> io::Result<()> {
-    form_name(rt, form)?;
-    text(rt, b", ")?;
-    counted(rt, length as u64, b"byte")?;
-    text(rt, b": ")?;
-    counted(rt, records, b"record")?;
-    text(
-        rt,
-        b", one for each step, the newest first, as undo takes them back\n",
+// Tells of a file that has so many records, and each of them, the newest first.
+pub fn tell(rt: &impl Print, form: Form, file: &[u8], records: u64) -> io::Result<()> {
+    println!(rt;
+        "form {}, {}: {}, one for each step, the newest first, as undo takes them back",
+        number(form),
+        Counted(file.len() as u64, "byte"),
+        Counted(records, "record")
     )?;
-    text(
-        rt,
-        b"a line says what the registers and the memory that its step changed held before it, in base 16;",
+    rt.println(
+        "a line says what the registers and the memory that its step changed held before it, in base 16; bytes stand after the address of the first of them",
     )?;
-    text(rt, b" bytes stand after the address of the first of them\n")
-}
-
-// ---- a record
-
-pub fn step(rt: &impl Print, k: u64, of: u64) -> io::Result<()> {
-    text(rt, b"step ")?;
-    decimal(rt, k)?;
-    text(rt, b" of ")?;
-    decimal(rt, of)?;
-    text(rt, b": ")
-}
-
-fn comma_before(rt: &impl Print, k: usize, first: usize) -> io::Result<()> {
-    if k != first {
-        text(rt, b", ")?;
+    let mut step = records;
+    let mut back = Back::new(form, file);
+    while let Some(record) = back.read() {
+        let changes = Changes {
+            slots: &back.slots[..record.slots],
+            bytes: &back.bytes[record.from..record.to],
+        };
+        println!(rt; "step {step} of {records}: {changes}")?;
+        step = step.saturating_sub(1);
     }
     Ok(())
-}
-
-fn tell_slots(rt: &impl Print, log: &[u64], ns: usize) -> io::Result<()> {
-    for k in 0..ns {
-        let c = change_at(log, k);
-        comma_before(rt, k, 0)?;
-        slots::name(rt, c.place)?;
-        text(rt, b" ")?;
-        slots::value(rt, c.place, c.old)?;
-    }
-    Ok(())
-}
-
-// Whether entry k has another address than the one after that of the entry before it.
-fn starts(log: &[u64], k: usize) -> bool {
-    let before = change_at(log, std::num::wrapping_sub_usize(k, 1));
-    let c = change_at(log, k);
-    c.place != std::num::wrapping_add_usize(before.place, 1)
-}
-
-fn tell_byte(rt: &impl Print, log: &[u64], k: usize, first: usize) -> io::Result<()> {
-    let c = change_at(log, k);
-    if k == first || starts(log, k) {
-        comma_before(rt, k, first)?;
-        place(rt, c.place)?;
-        text(rt, b":")?;
-    }
-    byte(rt, (c.old % 256) as u8)
-}
-
-fn tell_bytes(rt: &impl Print, log: &[u64], i: usize, n: usize) -> io::Result<()> {
-    for k in i..n {
-        tell_byte(rt, log, k, i)?;
-    }
-    Ok(())
-}
-
-// The changes of a record: ns slots, and the bytes of the entries from i up to n.
-pub fn changes(
-    rt: &impl Print,
-    slots: &[u64],
-    ns: usize,
-    bytes: &[u64],
-    i: usize,
-    n: usize,
-) -> io::Result<()> {
-    if ns == 0 && i == n {
-        return text(rt, b"it changed nothing\n");
-    }
-    text(rt, b"before it ")?;
-    tell_slots(rt, slots, ns)?;
-    if 0 < ns && i < n {
-        text(rt, b"; ")?;
-    }
-    if i < n {
-        text(rt, b"memory ")?;
-        tell_bytes(rt, bytes, i, n)?;
-    }
-    text(rt, b"\n")
 }

@@ -1,176 +1,126 @@
 // changes.rt - what a try changed: slots by name, memory as runs of neighbouring addresses, each before and after.
 // Means: nothing; proved safe.
-// Uses: codes, bus, compare, console, ending.  Source: [ours].
+// Uses: codes, bus, console, ending.  Source: [ours].
 use crate::ending::Frame;
 use bus::Window;
 use codes::SLOTS;
-use console::{byte, counted, decimal, place, slots, text};
-use std::io;
+use console::slots::{Name, Value};
+use console::{Bytes, Counted};
+use std::fmt::{Display, Formatter};
+use std::{fmt, io};
 
 // of a longer run so many bytes are shown
 const SHOWN: usize = 16;
 
 // ---- slots
 
-// After a slot's name, so that values stand below each other.
-fn space_after(rt: &impl Print, k: usize) -> io::Result<()> {
-    match k {
-        codes::USP | codes::SSP => text(rt, b"  "),
-        codes::MODE => text(rt, b" "),
-        _ => text(rt, b"   "),
-    }
-}
-
-fn tell_slot(rt: &impl Print, k: usize, old: u32, new: u32) -> io::Result<()> {
-    if old == new {
-        return Ok(());
-    }
-    text(rt, b"  ")?;
-    slots::name(rt, k)?;
-    space_after(rt, k)?;
-    slots::value(rt, k, old)?;
-    text(rt, b" -> ")?;
-    slots::value(rt, k, new)?;
-    text(rt, b"\n")
-}
-
 pub fn tell_slots(rt: &impl Print, before: &[u32; SLOTS], after: &[u32; SLOTS]) -> io::Result<()> {
-    text(rt, b"changed registers:\n")?;
-    for k in 0..SLOTS {
-        tell_slot(rt, k, before[k], after[k])?;
+    rt.println("changed registers:")?;
+    let mut none = true;
+    for (k, (&old, &new)) in before.iter().zip(after).enumerate() {
+        if old != new {
+            none = false;
+            println!(rt; "  {:<5}{} -> {}", Name(k), Value(k, old), Value(k, new))?;
+        }
     }
-    if compare::same_slots(before, after) {
-        text(rt, b"  none\n")?;
+    if none {
+        rt.println("  none")?;
     }
     Ok(())
 }
 
 // ---- memory
 
-// The window and the exception's frame.
+// The window, and the exception's frame, if there is one.
 #[derive(Clone, Copy)]
 pub struct Bounds {
     pub win: Window,
-    pub frame: Frame,
+    pub frame: Option<Frame>,
 }
 
-fn in_window(b: Bounds, i: usize) -> bool {
-    let w = b.win;
-    w.lo as usize <= i && i < w.hi as usize
-}
-
-fn in_frame(b: Bounds, i: usize) -> bool {
-    let f = b.frame;
-    f.at as usize <= i && i < f.at as usize + f.length as usize
-}
-
-// Whether two places lie in the same of these.
-fn alike(b: Bounds, i: usize, k: usize) -> bool {
-    (in_window(b, i) == in_window(b, k)) & (in_frame(b, i) == in_frame(b, k))
-}
-
-fn at(bytes: &[u8], i: usize) -> u8 {
-    if bytes.len() <= i {
-        return 0;
+impl Bounds {
+    fn in_window(&self, place: usize) -> bool {
+        self.win.lo as usize <= place && place < self.win.hi as usize
     }
-    bytes[i]
-}
 
-// Whether a place is shown: where its byte differs; and a frame whole, since it was written whole.
-fn shown(before: &[u8], after: &[u8], b: Bounds, i: usize) -> bool {
-    (at(before, i) != at(after, i)) | in_frame(b, i)
-}
-
-// Whether the place before i belongs to the same run as i.
-fn joined(before: &[u8], after: &[u8], b: Bounds, i: usize) -> bool {
-    if i == 0 {
-        return false;
+    fn in_frame(&self, place: usize) -> bool {
+        self.frame.is_some_and(|frame| frame.has(place))
     }
-    shown(before, after, b, i - 1) & alike(b, i - 1, i)
-}
 
-fn starts(before: &[u8], after: &[u8], b: Bounds, i: usize) -> bool {
-    if shown(before, after, b, i) {
-        return !joined(before, after, b, i);
+    // Whether two places are neighbours that lie in the same of these.
+    fn joins(&self, i: usize, k: usize) -> bool {
+        i.checked_add(1) == Some(k)
+            && self.in_window(i) == self.in_window(k)
+            && self.in_frame(i) == self.in_frame(k)
     }
-    false
 }
 
-// How many bytes the run has that starts at a place.
-fn run_length(before: &[u8], after: &[u8], b: Bounds, from: usize) -> usize {
-    for i in from..before.len() {
-        let ended = !shown(before, after, b, i) | !alike(b, from, i);
-        if ended {
-            return std::num::wrapping_sub_usize(i, from);
+// The first bytes of a run, and how many more there are.
+#[derive(Clone, Copy)]
+struct Shown<'a>(&'a [u8]);
+
+impl Display for Shown<'_> {
+    fn fmt<W: fmt::Write>(&self, f: &mut Formatter<W>) -> fmt::Result {
+        let (shown, more) = self.0.split_at(self.0.len().min(SHOWN));
+        write!(f, "{}", Bytes(shown))?;
+        if !more.is_empty() {
+            write!(f, " .. and {} more", more.len())?;
         }
+        Ok(())
     }
-    std::num::wrapping_sub_usize(before.len(), from)
 }
 
-fn tell_bytes(rt: &impl Print, bytes: &[u8], from: usize, n: usize) -> io::Result<()> {
-    for i in 0..SHOWN {
-        if i < n {
-            byte(rt, at(bytes, std::num::wrapping_add_usize(from, i)))?;
-        }
-    }
-    if SHOWN < n {
-        text(rt, b" .. and ")?;
-        decimal(rt, (n - SHOWN) as u64)?;
-        text(rt, b" more")?;
-    }
-    text(rt, b"\n")
-}
-
-fn tell_where(rt: &impl Print, b: Bounds, i: usize) -> io::Result<()> {
-    let outside = !in_window(b, i);
-    if outside {
-        text(rt, b", outside the window")?;
-    }
-    if in_frame(b, i) {
-        text(rt, b": the frame of the exception")?;
-    }
-    text(rt, b"\n")
-}
-
+// Tells of the run from the first place to the last.
 fn tell_run(
     rt: &impl Print,
     before: &[u8],
     after: &[u8],
     b: Bounds,
-    from: usize,
+    first: usize,
+    last: usize,
 ) -> io::Result<()> {
-    let n = run_length(before, after, b, from);
-    text(rt, b"  ")?;
-    place(rt, from)?;
-    text(rt, b" to ")?;
-    place(
-        rt,
-        std::num::wrapping_sub_usize(std::num::wrapping_add_usize(from, n), 1),
+    let (Some(old), Some(new)) = (before.get(first..=last), after.get(first..=last)) else {
+        return Ok(());
+    };
+    let outside = if b.in_window(first) {
+        ""
+    } else {
+        ", outside the window"
+    };
+    let frame = if b.in_frame(first) {
+        ": the frame of the exception"
+    } else {
+        ""
+    };
+    println!(rt;
+        "  {first:06x} to {last:06x}, {}{outside}{frame}",
+        Counted(old.len() as u64, "byte")
     )?;
-    text(rt, b", ")?;
-    counted(rt, n as u64, b"byte")?;
-    tell_where(rt, b, from)?;
-    text(rt, b"    before")?;
-    tell_bytes(rt, before, from, n)?;
-    text(rt, b"    after ")?;
-    tell_bytes(rt, after, from, n)
+    println!(rt; "    before{}", Shown(old))?;
+    println!(rt; "    after {}", Shown(new))
 }
 
-fn tell_place(rt: &impl Print, before: &[u8], after: &[u8], b: Bounds, i: usize) -> io::Result<()> {
-    if starts(before, after, b, i) {
-        tell_run(rt, before, after, b, i)?;
+// Tells the places whose bytes differ, and the frame whole, since it was written whole.
+pub fn tell_memory(
+    rt: &(impl Print + AllocGlobal),
+    before: &[u8],
+    after: &[u8],
+    b: Bounds,
+) -> io::Result<()> {
+    rt.println("changed memory:")?;
+    let mut places = Vec::new(rt.alloc());
+    for (place, (old, new)) in before.iter().zip(after).enumerate() {
+        if old != new || b.in_frame(place) {
+            places.push(place)?;
+        }
     }
-    Ok(())
-}
-
-pub fn tell_memory(rt: &impl Print, before: &[u8], after: &[u8], b: Bounds) -> io::Result<()> {
-    text(rt, b"changed memory:\n")?;
-    for i in 0..before.len() {
-        tell_place(rt, before, after, b, i)?;
+    for run in places.chunk_by(|&i, &k| b.joins(i, k)) {
+        if let (Some(&first), Some(&last)) = (run.first(), run.last()) {
+            tell_run(rt, before, after, b, first, last)?;
+        }
     }
-    let frame = b.frame;
-    if compare::same(before, after) && frame.length == 0 {
-        text(rt, b"  none\n")?;
+    if places.is_empty() && b.frame.is_none() {
+        rt.println("  none")?;
     }
     Ok(())
 }

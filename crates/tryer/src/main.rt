@@ -18,265 +18,185 @@ mod rom;
 mod words;
 
 use bus::Window;
-use calls::ResetAnswer;
 use changes::Bounds;
-use codes::{MOST_ROM, ROM_START, SLOTS};
-use console::{address, complain, counted, decimal, has_more, hex, read_full, text};
+use codes::{ROM_START, SLOTS};
+use console::{Counted, arguments, read_at_most};
+use ending::Frame;
+use names::Refusal;
 use std::io;
 use tries::{BackAnswer, TryAnswer};
-use words::{MEMORY, Words};
+use words::{Asked, MEMORY};
 
 const JOURNAL: usize = 4194304;
 
-// What is tried: the window, that before it, how many steps.
-#[derive(Clone, Copy)]
-struct Asked {
-    win: Window,
-    old: Window,
-    steps: u32,
+// Slots and memory, as they are at one time.
+#[derive(Drop)]
+struct State {
+    slots: [u32; SLOTS],
+    memory: Vec<u8>,
 }
 
 // The start of a pattern, after a reset: user state, and no flags.
-fn set_user(slots: &mut [u32; SLOTS], w: Words) {
+fn set_user(slots: &mut [u32; SLOTS], asked: &Asked) {
     if slots[codes::SSP] == 0 {
-        slots[codes::SSP] = words::value(MEMORY as u64);
+        slots[codes::SSP] = MEMORY;
     }
-    if w.pc != words::OF_RESET {
-        slots[codes::PC] = words::value(w.pc);
+    if let Some(pc) = asked.pc {
+        slots[codes::PC] = pc;
     }
-    slots[codes::USP] = words::value(w.stack);
+    slots[codes::USP] = asked.stack;
     slots[codes::SR] = 0;
 }
 
-// The ROM, if there is one: its length, and its first and last place.
-fn tell_rom(rt: &impl Print, rom: &[u8]) -> io::Result<()> {
-    let n = rom.len() as u64;
-    if n == 0 {
-        return Ok(());
-    }
-    let start = ROM_START as u64;
-    text(rt, b"ROM: ")?;
-    counted(rt, n, b"byte")?;
-    text(rt, b", ")?;
-    hex(rt, start, 6)?;
-    text(rt, b" to ")?;
-    hex(rt, std::num::wrapping_add_u64(start, n - 1), 6)?;
-    text(rt, b"\n")
-}
-
+// What is tried: the image's length; the ROM, if there is one, with its first and last place; the window, the start and the steps.
 fn tell_asked(
     rt: &impl Print,
     n: usize,
-    a: Asked,
+    asked: &Asked,
     slots: &[u32; SLOTS],
     rom: &[u8],
 ) -> io::Result<()> {
-    let win = a.win;
-    text(rt, b"image: ")?;
-    counted(rt, n as u64, b"byte")?;
-    text(rt, b"\n")?;
-    tell_rom(rt, rom)?;
-    text(rt, b"tried: window ")?;
-    address(rt, win.lo)?;
-    text(rt, b" to below ")?;
-    address(rt, win.hi)?;
-    text(rt, b", start ")?;
-    address(rt, slots[codes::PC])?;
-    text(rt, b", user stack ")?;
-    address(rt, slots[codes::USP])?;
-    text(rt, b", at most ")?;
-    counted(rt, a.steps as u64, b"step")?;
-    text(rt, b"\n")
-}
-
-fn tell_same(rt: &impl Print, what: &[u8], same: bool) -> io::Result<()> {
-    text(rt, what)?;
-    if same {
-        text(rt, b" the same")
-    } else {
-        text(rt, b" NOT THE SAME")
+    println!(rt; "image: {}", Counted(n as u64, "byte"))?;
+    if !rom.is_empty() {
+        let last = (ROM_START as usize).saturating_add(rom.len() - 1);
+        println!(rt;
+            "ROM: {}, {ROM_START:06x} to {last:06x}",
+            Counted(rom.len() as u64, "byte")
+        )?;
     }
-}
-
-// How much was taken back.
-fn tell_back(rt: &impl Print, a: TryAnswer, b: BackAnswer) -> io::Result<()> {
-    text(rt, b"taken back: ")?;
-    decimal(rt, b.undone as u64)?;
-    text(rt, b" of ")?;
-    counted(rt, a.steps as u64, b"step")?;
-    if b.number != 0 {
-        text(rt, b", then refusal ")?;
-        decimal(rt, b.number as u64)?;
-        text(rt, b": ")?;
-        names::refusal(rt, b.number)?;
-    }
-    text(rt, b"\n")
-}
-
-// What is there now beside what was there before the try.
-fn tell_compared(
-    rt: &impl Print,
-    slots: bool,
-    memory: bool,
-    mark: bool,
-    window: bool,
-) -> io::Result<()> {
-    text(rt, b"compared with before:")?;
-    tell_same(rt, b" registers", slots)?;
-    tell_same(rt, b", memory", memory)?;
-    tell_same(rt, b", mark", mark)?;
-    tell_same(rt, b", window", window)?;
-    if slots & memory & mark & window {
-        text(rt, b"\nALL WAS TAKEN BACK\n")
-    } else {
-        text(rt, b"\nNOT ALL WAS TAKEN BACK\n")
-    }
+    println!(rt;
+        "tried: window {:06x} to below {:06x}, start {:06x}, user stack {:06x}, at most {}",
+        asked.win.lo,
+        asked.win.hi,
+        slots[codes::PC],
+        slots[codes::USP],
+        Counted(u64::from(asked.steps), "step")
+    )
 }
 
 // Tells the result of a try, and what it changed.
 fn tell_tried(
-    rt: &impl Print,
+    rt: &(impl Print + AllocGlobal),
     t: TryAnswer,
     win: Window,
-    start: &[u32; SLOTS],
-    slots: &[u32; SLOTS],
-    before: &[u8],
-    memory: &[u8],
+    before: &State,
+    after: &State,
 ) -> io::Result<()> {
-    let frame = ending::frame_of(t, slots);
-    ending::tell(rt, t, frame, slots, memory)?;
-    changes::tell_slots(rt, start, slots)?;
-    changes::tell_memory(rt, before, memory, Bounds { win, frame })
+    let frame = Frame::of(t, &after.slots);
+    let (old, new) = (before.memory.as_slice(), after.memory.as_slice());
+    ending::tell(rt, t, frame, &after.slots, new)?;
+    changes::tell_slots(rt, &before.slots, &after.slots)?;
+    changes::tell_memory(rt, old, new, Bounds { win, frame })
 }
 
-// Compares with what was there before the try.
-fn compare_all(
+// How much was taken back.
+fn tell_back(rt: &impl Print, t: TryAnswer, b: BackAnswer) -> io::Result<()> {
+    print!(rt;
+        "taken back: {} of {}",
+        b.undone,
+        Counted(u64::from(t.steps), "step")
+    )?;
+    if b.number != 0 {
+        print!(rt; ", then refusal {}: {}", b.number, Refusal(b.number))?;
+    }
+    rt.println("")
+}
+
+fn verdict(same: bool) -> &'static str {
+    if same { "the same" } else { "NOT THE SAME" }
+}
+
+// What is there now beside what was there before the try, where the window was old.
+fn tell_compared(
     rt: &impl Print,
     b: BackAnswer,
     old: Window,
-    start: &[u32; SLOTS],
-    slots: &[u32; SLOTS],
-    before: &[u8],
-    memory: &[u8],
+    before: &State,
+    after: &State,
 ) -> io::Result<()> {
-    tell_compared(
-        rt,
-        compare::same_slots(start, slots),
-        compare::same(before, memory),
-        b.mark == 0,
-        (b.lo == old.lo) & (b.hi == old.hi),
-    )
+    let slots = compare::same_slots(&before.slots, &after.slots);
+    let memory = compare::same(before.memory.as_slice(), after.memory.as_slice());
+    let mark = b.mark == 0;
+    let window = b.lo == old.lo && b.hi == old.hi;
+    println!(rt;
+        "compared with before: registers {}, memory {}, mark {}, window {}",
+        verdict(slots),
+        verdict(memory),
+        verdict(mark),
+        verdict(window)
+    )?;
+    rt.println(if slots && memory && mark && window {
+        "ALL WAS TAKEN BACK"
+    } else {
+        "NOT ALL WAS TAKEN BACK"
+    })
 }
 
-// Tries, tells what that did, takes it back, and compares.
-fn try_it(
-    rt: &impl Print,
-    a: Asked,
-    slots: &mut [u32; SLOTS],
-    before: &[u8],
-    memory: &mut [u8],
-    rom: &[u8],
-    journal: &mut [u8],
-) -> io::Result<()> {
-    let start = *slots;
-    let win = a.win;
-    let old = a.old;
-    let t = tries::try_pattern(slots, win, memory, rom, a.steps, journal, 0);
-    tell_tried(rt, t, win, &start, slots, before, memory)?;
-    let b = tries::take_back(slots, win, memory, rom, journal, t.mark, t.steps, old);
-    tell_back(rt, t, b)?;
-    compare_all(rt, b, old, &start, slots, before, memory)
-}
-
-fn lend(
-    rt: &impl Print,
-    a: Asked,
-    slots: &mut [u32; SLOTS],
-    before: &[u8; MEMORY],
-    memory: &mut [u8; MEMORY],
-    rom: &[u8],
-    journal: &mut [u8; JOURNAL],
-) -> io::Result<()> {
-    try_it(rt, a, slots, before, memory, rom, journal)
-}
-
-// What the words ask, where the window before is the reset's.
-fn what_is_asked(w: Words, r: ResetAnswer) -> Asked {
-    let win = Window {
-        lo: words::value(w.lo),
-        hi: words::value(w.hi),
-    };
-    let old = Window { lo: r.lo, hi: r.hi };
-    Asked {
-        win,
-        old,
-        steps: words::value(w.steps),
-    }
-}
-
-// Resets by the image, sets the start, and tries.
+// Resets by an image, of which the first n bytes were read, sets the start, tries, tells what that did, takes it back and compares.
 fn try_image(
-    rt: &impl Print,
+    rt: &(impl Print + AllocGlobal),
     n: usize,
-    w: Words,
-    memory: &mut [u8; MEMORY],
+    asked: &Asked,
+    image: Vec<u8>,
     rom: &[u8],
 ) -> io::Result<()> {
-    let mut slots = [0u32; SLOTS];
-    let mut journal = [0u8; JOURNAL];
-    let before = *memory;
-    let r = machine::reset(&mut slots, memory, rom);
-    set_user(&mut slots, w);
-    let a = what_is_asked(w, r);
-    tell_asked(rt, n, a, &slots, rom)?;
-    lend(rt, a, &mut slots, &before, memory, rom, &mut journal)
-}
+    let mut slots = [0; SLOTS];
+    let reset = machine::reset(&mut slots, image.as_slice(), rom);
+    set_user(&mut slots, asked);
+    tell_asked(rt, n, asked, &slots, rom)?;
 
-// Tries with so many bytes of the ROM; where it could not be read there are fewer.
-fn try_with(
-    rt: &impl Print,
-    n: usize,
-    w: Words,
-    memory: &mut [u8; MEMORY],
-    rom: &[u8],
-    length: usize,
-) -> io::Result<()> {
-    if rom.len() < length {
-        return Ok(());
-    }
-    try_image(rt, n, w, memory, &rom[0..length])
-}
+    let mut journal = vec![in rt.alloc(); 0; JOURNAL]?;
+    let mut now = State {
+        slots,
+        memory: Vec::from_slice(rt.alloc(), image.as_slice())?,
+    };
+    let before = State {
+        slots,
+        memory: image,
+    };
+    let t = tries::try_pattern(
+        &mut now.slots,
+        asked.win,
+        now.memory.as_mut_slice(),
+        rom,
+        asked.steps,
+        journal.as_mut_slice(),
+        0,
+    );
+    tell_tried(rt, t, asked.win, &before, &now)?;
 
-fn lend_rom(
-    rt: &impl Print,
-    n: usize,
-    w: Words,
-    memory: &mut [u8; MEMORY],
-    rom: &[u8; MOST_ROM],
-    length: usize,
-) -> io::Result<()> {
-    try_with(rt, n, w, memory, rom, length)
-}
-
-// Reads the ROM, and tries.
-fn try_beside(rt: &HostRuntime, n: usize, w: Words, memory: &mut [u8; MEMORY]) -> io::Result<()> {
-    let mut rom = [0u8; MOST_ROM];
-    let length = rom::read(rt, &mut rom)?;
-    lend_rom(rt, n, w, memory, &rom, length)
+    let old = Window {
+        lo: reset.lo,
+        hi: reset.hi,
+    };
+    let b = tries::take_back(
+        &mut now.slots,
+        asked.win,
+        now.memory.as_mut_slice(),
+        rom,
+        journal.as_slice(),
+        t.mark,
+        t.steps,
+        old,
+    );
+    tell_back(rt, t, b)?;
+    tell_compared(rt, b, old, &before, &now)
 }
 
 fn main(rt: HostRuntime) -> io::Result<()> {
-    let w = words::read(&rt);
-    if !words::are_good(&rt, w) {
-        return complain(
-            &rt,
-            b"usage: ./run tryer [LO HI STEPS PC STACK ROM] < IMAGE; STEPS is in base 10, ROM a file, the others in base 16, - is the default\n",
+    let words = arguments(&rt)?;
+    let Some(asked) = Asked::of(words.as_slice()) else {
+        return rt.eprintln(
+            "usage: ./run tryer [LO HI STEPS PC STACK ROM] < IMAGE; STEPS is in base 10, ROM a file, the others in base 16, - is the default",
         );
+    };
+    let Some(mut image) = read_at_most(&rt, &mut rt.reader(), MEMORY as usize)? else {
+        return eprintln!(rt; "tryer: the image has more than {MEMORY} bytes");
+    };
+    let n = image.len();
+    image.resize(MEMORY as usize, 0)?;
+    match rom::read(&rt, asked.rom)? {
+        Some(rom) => try_image(&rt, n, &asked, image, rom.as_slice()),
+        None => Ok(()),
     }
-    let mut memory = [0u8; MEMORY];
-    let n = read_full(&mut rt.reader(), &mut memory)?;
-    if has_more(&rt)? {
-        return complain(&rt, b"tryer: the image has more than 65536 bytes\n");
-    }
-    try_beside(&rt, n, w, &mut memory)
 }

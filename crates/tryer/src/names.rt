@@ -1,77 +1,56 @@
 // names.rt - vectors and refusals by name, for a person.
 // Means: nothing; proved safe.
-// Uses: codes, console.  Source: [003 4-2], [01 Calls, table], [K7], [K10].
-use console::{decimal, text};
-use std::io;
+// Uses: codes.  Source: [003 4-2], [01 Calls, table], [K7], [K10].
+use std::fmt;
+use std::fmt::{Display, Formatter};
 
-// The vectors below 12: those of the machine itself.
-fn low_vector(rt: &impl Print, v: u32) -> io::Result<()> {
-    match v {
-        codes::BUS_ERROR => text(rt, b"bus error"),
-        codes::ADDRESS_ERROR => text(rt, b"address error"),
-        codes::ILLEGAL_INSTRUCTION => text(rt, b"illegal instruction"),
-        codes::ZERO_DIVIDE => text(rt, b"zero divide"),
-        codes::CHK_INSTRUCTION => text(rt, b"CHK instruction"),
-        codes::TRAPV_INSTRUCTION => text(rt, b"TRAPV instruction"),
-        codes::PRIVILEGE_VIOLATION => text(rt, b"privilege violation"),
-        codes::TRACE_VECTOR => text(rt, b"trace"),
-        codes::LINE1010 => text(rt, b"line 1010 emulator"),
-        codes::LINE1111 => text(rt, b"line 1111 emulator"),
-        _ => text(rt, b"reset"),
-    }
-}
+// A vector's name.
+#[derive(Clone, Copy)]
+pub struct Vector(pub u32);
 
-// A word and a number after it.
-fn numbered(rt: &impl Print, name: &[u8], n: u32) -> io::Result<()> {
-    text(rt, name)?;
-    decimal(rt, n as u64)
-}
-
-// The vectors from 12 on.
-fn high_vector(rt: &impl Print, v: u32) -> io::Result<()> {
-    match v {
-        15 => text(rt, b"uninitialized interrupt"),
-        24 => text(rt, b"spurious interrupt"),
-        25..=31 => numbered(rt, b"autovector of interrupt level ", v - 24),
-        32..=47 => numbered(rt, b"TRAP #", v - 32),
-        64..=255 => numbered(rt, b"user interrupt ", v - 64),
-        _ => text(rt, b"reserved"),
-    }
-}
-
-pub fn vector(rt: &impl Print, v: u32) -> io::Result<()> {
-    if v < 12 {
-        low_vector(rt, v)
-    } else {
-        high_vector(rt, v)
+impl Display for Vector {
+    fn fmt<W: fmt::Write>(&self, f: &mut Formatter<W>) -> fmt::Result {
+        match self.0 {
+            codes::BUS_ERROR => f.write_str("bus error"),
+            codes::ADDRESS_ERROR => f.write_str("address error"),
+            codes::ILLEGAL_INSTRUCTION => f.write_str("illegal instruction"),
+            codes::ZERO_DIVIDE => f.write_str("zero divide"),
+            codes::CHK_INSTRUCTION => f.write_str("CHK instruction"),
+            codes::TRAPV_INSTRUCTION => f.write_str("TRAPV instruction"),
+            codes::PRIVILEGE_VIOLATION => f.write_str("privilege violation"),
+            codes::TRACE_VECTOR => f.write_str("trace"),
+            codes::LINE1010 => f.write_str("line 1010 emulator"),
+            codes::LINE1111 => f.write_str("line 1111 emulator"),
+            0..=11 => f.write_str("reset"),
+            15 => f.write_str("uninitialized interrupt"),
+            24 => f.write_str("spurious interrupt"),
+            v @ 25..=31 => write!(f, "autovector of interrupt level {}", v - 24),
+            v @ 32..=47 => write!(f, "TRAP #{}", v - 32),
+            v @ 64..=255 => write!(f, "user interrupt {}", v - 64),
+            _ => f.write_str("reserved"),
+        }
     }
 }
 
 // What a refusal's number says.
-pub fn refusal(rt: &impl Print, number: u32) -> io::Result<()> {
-    match number {
-        1 => text(rt, b"the memory is of no length that is taken"),
-        2 => text(rt, b"SR or mode is none that there is"),
-        3 => text(
-            rt,
-            b"more steps are asked than the 1000000 that a try may take",
-        ),
-        4 => text(rt, b"the mark lies past the journal's end"),
-        5 => text(
-            rt,
-            b"the journal is full: another step may not find room for its record",
-        ),
-        6 => text(rt, b"the machine is halted"),
-        7 => text(rt, b"the journal has no record to undo"),
-        8 => text(rt, b"the journal's last bytes are no record"),
-        10 => text(
-            rt,
-            b"the window is none: its start lies above its end, or its end above that of memory and ROM",
-        ),
-        12 => text(
-            rt,
-            b"the ROM is of no length that is taken, or the memory beside it too long",
-        ),
-        _ => text(rt, b"none that a try or an undo has"),
+#[derive(Clone, Copy)]
+pub struct Refusal(pub u32);
+
+impl Display for Refusal {
+    fn fmt<W: fmt::Write>(&self, f: &mut Formatter<W>) -> fmt::Result {
+        f.write_str(match self.0 {
+            1 => "the memory is of no length that is taken",
+            2 => "SR or mode is none that there is",
+            3 => "more steps are asked than the 1000000 that a try may take",
+            4 => "the mark lies past the journal's end",
+            5 => "the journal is full: another step may not find room for its record",
+            6 => "the machine is halted",
+            7 => "the journal has no record to undo",
+            8 => "the journal's last bytes are no record",
+            10 =>
+                "the window is none: its start lies above its end, or its end above that of memory and ROM",
+            12 => "the ROM is of no length that is taken, or the memory beside it too long",
+            _ => "none that a try or an undo has",
+        })
     }
 }

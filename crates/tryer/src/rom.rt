@@ -1,45 +1,30 @@
 // rom.rt - the ROM that a word names, read from its file.
 // Means: nothing; proved safe.
-// Uses: codes, console, words.  Source: [ours]; the length is that of [K10].
-use crate::words;
+// Uses: codes, console.  Source: [ours]; the length is that of [K10].
 use codes::MOST_ROM;
-use console::{argument, complain, file_has_more, opened, read_full, tell_failed};
+use console::{opened, read_at_most, tell_failed};
 use std::io;
-use std::io::Read;
 
-// what stands for the length of a ROM that can not be read: more than any has
-pub const NO_LENGTH: usize = 2097152;
-
-// Reads an open file, and answers how many bytes it has.
-fn read_from(
-    rt: &HostRuntime,
-    file: &mut impl Read,
-    rom: &mut [u8; MOST_ROM],
-) -> io::Result<usize> {
-    let n = read_full(file, rom)?;
-    if file_has_more(file)? {
-        complain(rt, b"tryer: the ROM has more than 1048576 bytes\n")?;
-        return Ok(NO_LENGTH);
-    }
-    Ok(n)
-}
-
-fn read_file(rt: &HostRuntime, path: &[u8], rom: &mut [u8; MOST_ROM]) -> io::Result<usize> {
-    match opened(rt, path) {
-        Ok(mut file) => read_from(rt, &mut file, rom),
+// Reads the file of this name, or tells why it can not be read.
+fn read_file(rt: &HostRuntime, path: &[u8]) -> io::Result<Option<Vec<u8>>> {
+    let mut file = match opened(rt, path) {
+        Ok(file) => file,
         Err(e) => {
             tell_failed(rt, path, &e)?;
-            Ok(NO_LENGTH)
+            return Ok(None);
         }
+    };
+    let rom = read_at_most(rt, &mut file, MOST_ROM)?;
+    if rom.is_none() {
+        eprintln!(rt; "tryer: the ROM has more than {MOST_ROM} bytes")?;
     }
+    Ok(rom)
 }
 
-// Reads the file that the word names, and answers how many bytes it has; 0 where no word names one.
-pub fn read(rt: &HostRuntime, rom: &mut [u8; MOST_ROM]) -> io::Result<usize> {
-    if !words::names_rom(rt) {
-        return Ok(0);
+// The ROM, which has no bytes where no file is named; or none where it can not be read, and that is told.
+pub fn read(rt: &HostRuntime, path: Option<&[u8]>) -> io::Result<Option<Vec<u8>>> {
+    match path {
+        Some(path) => read_file(rt, path),
+        None => Ok(Some(Vec::new(rt.alloc()))),
     }
-    let mut path = [0u8; 4096];
-    let n = argument(rt, words::FILE, &mut path);
-    read_file(rt, &path[..n], rom)
 }
