@@ -173,3 +173,6 @@ module _ (b h : ℕ) (p : List ℕ) (low : b ≤ h) (inside : h ≤ length p) wh
 pub drop_turned_done : (b h c mark : ℕ) (p l₁ l₂ : List ℕ) → b + c ≤ h → h + c ≤ mark → mark ≤ length p → l₁ ≡ written p b (slice h (h + c) p) → l₂ ≡ written l₁ h (slice (h + c) mark l₁)
     → turned (b + c) h l₂ ≡ written (turned b h p) 0 (slice c mark (turned b h p))
 drop_turned_done b h c mark p l₁ l₂ room above inside e f = rw (f, e) (turned_drop b h c mark p room above inside)
+
+pub turn_back_done : (b h : ℕ) (p l₁ l₂ l₃ : List ℕ) → b ≤ h → h ≤ length p → l₁ ≡ written p 0 (reverse (slice 0 b p)) → l₂ ≡ written l₁ b (reverse (slice b h l₁)) → l₃ ≡ written l₂ 0 (reverse (slice 0 h l₂)) → l₃ ≡ turned b h p
+turn_back_done b h p l₁ l₂ l₃ low inside e f g = rw (g, f, e) (turned_back b h p low inside)
