@@ -36,6 +36,7 @@ pub fn supervisor_sr(sr: u32) -> u32
 }
 
 // Whether the six bytes of a frame can be written.
+#[tactic(auto, unfolding(crate::specs::Exceptions::small_room))]
 fn small_room(mem: &[u8], a: u32) -> bool
     ensures { result ≡ small_room (all_of mem.now) a }
 {
@@ -71,6 +72,7 @@ fn small_enters(mem: &[u8], a: u32, vec: u32, sr: u32, pc: u32) -> bool
 }
 
 // Whether an exception with the small frame can be taken.
+#[tactic(auto, unfolding(crate::specs::Exceptions::small_ready))]
 fn small_ready(s: &[u32; SLOTS], mem: &[u8], vec: u32) -> bool
     ensures { result ≡ small_ready s.now mem.now vec }
 {
@@ -81,6 +83,7 @@ fn small_ready(s: &[u32; SLOTS], mem: &[u8], vec: u32) -> bool
 }
 
 // The slots as an exception leaves them: SSP at the frame, PC from the vector, which is read after the frame is written; running.
+#[tactic(auto, unfolding(crate::specs::Exceptions::enter, crate::specs::Exceptions::handler))]
 fn enter(s: &mut [u32; SLOTS], mem: &[u8], a: u32, vec: u32, sr: u32)
     ensures { s.new ≡ enter s.old (all_of mem.now) a vec sr }
 {
@@ -93,6 +96,7 @@ fn enter(s: &mut [u32; SLOTS], mem: &[u8], a: u32, vec: u32, sr: u32)
 }
 
 // An exception with the small frame; sr is the SR that it leaves.
+#[tactic(auto, unfolding(crate::specs::Exceptions::exception))]
 pub fn exception(
     s: &mut [u32; SLOTS],
     mem: &mut [u8],
@@ -127,6 +131,7 @@ pub fn exception(
 }
 
 // Whether the fourteen bytes of a fault's frame can be written.
+#[tactic(auto, unfolding(crate::specs::Exceptions::big_room))]
 fn big_room(mem: &[u8], a: u32) -> bool
     ensures { result ≡ big_room (all_of mem.now) a }
 {
@@ -156,6 +161,7 @@ fn big_enters(mem: &[u8], a: u32, bad: u32, op: u32, sr: u32, pc: u32) -> bool
 }
 
 // Whether a fault can be taken.
+#[tactic(auto, unfolding(crate::specs::Exceptions::big_ready))]
 fn big_ready(s: &[u32; SLOTS], mem: &[u8], bad: u32, op: u32) -> bool
     ensures { result ≡ big_ready s.now mem.now bad op }
 {
@@ -167,6 +173,7 @@ fn big_ready(s: &[u32; SLOTS], mem: &[u8], bad: u32, op: u32) -> bool
 }
 
 // A fault that can be taken: the saved PC is the instruction's address plus 2.
+#[tactic(auto, unfolding(crate::specs::Exceptions::fault_taken))]
 fn fault_taken(
     s: &mut [u32; SLOTS],
     mem: &mut [u8],
@@ -193,6 +200,7 @@ fn fault_taken(
 }
 
 // The exception of a fault, from the slots as they were before the instruction.
+#[tactic(auto, unfolding(crate::specs::Exceptions::fault))]
 pub fn fault(
     s: &mut [u32; SLOTS],
     mem: &mut [u8],
