@@ -3,9 +3,8 @@
 // Uses: undo, record, numbers, bits.  Source: [K5].
 #![tactic(auto)]
 
-ghost use Rattle.std.specs.Prelude.{◌≡◌, ℕ, ◌+◌, ◌^◌, ◌<◌, ◌≤◌, length, nat_lt, slice_index};
+ghost use Rattle.std.specs.Prelude.{◌≡◌, ℕ, ◌+◌, ◌<◌, ◌≤◌, length, slice_index};
 ghost use Rattle.std.proofs.Math.Seq.{slice};
-ghost use Rattle.bits.specs.Bits.{pick};
 ghost use Rattle.numbers.specs.Number.{written};
 ghost use Rattle.record.specs.Limits.{slot_limit, byte_limit};
 ghost use Rattle.oldest.specs.Room.{CutIs, RoomIs, capped};
@@ -21,6 +20,7 @@ pub struct Cut {
 }
 
 // The number of the refusal or 0, the mark, the bytes moved and the records dropped.
+// Not a Result: machine::step hands the number to the C interface as it is, and RoomIs says it.
 #[derive(Clone, Copy)]
 pub struct Room {
     pub number: u32,
@@ -29,7 +29,7 @@ pub struct Room {
     pub dropped: usize,
 }
 
-// What the type says of a journal: bytes.
+// What the type says of a journal: bytes. No crate here asks for it any more; its promise stays.
 pub fn octets(j: &[u8]) -> usize
     ensures { (k : ℕ) → slice_index j.now k < 256 }
 {
