@@ -3,8 +3,8 @@
 // Uses: runs, oldest, undo, record, numbers, codes.  Source: [K8].
 #![tactic(auto)]
 
-ghost use Rattle.std.specs.Prelude.{◌≡◌, ◌+◌, ◌≤◌, ◌<◌, map, length, take};
-ghost use Rattle.numbers.specs.Number.{back, written};
+ghost use Rattle.std.specs.Prelude.{◌≡◌, ◌+◌, ◌≤◌, ◌<◌, map, length};
+ghost use Rattle.numbers.specs.Number.{back};
 ghost use Rattle.record.specs.Limits.{slot_limit, byte_limit, longest_record_two};
 ghost use Rattle.record.specs.Change.{unpack, changes_bytes};
 ghost use Rattle.runs.specs.Answers.{LoggedIs, BytesPut, PartPut};
