@@ -44,9 +44,9 @@ impl Word {
     pub fn asked<'a>(self, rt: &(impl Files + Alloc), text: &'a [u8]) -> Option<Asked<'a>> {
         match self {
             Word::Image => Some(Asked::Image(text)),
-            Word::Memory => memory_length(rt, number(text)?).map(Asked::Memory),
-            Word::Rom => rom_length(number(text)?).map(Asked::Rom),
-            Word::Journal => journal_length(number(text)?).map(Asked::Journal),
+            Word::Memory => Some(Asked::Memory(memory_length(rt, number(text)?)?)),
+            Word::Rom => Some(Asked::Rom(rom_length(number(text)?)?)),
+            Word::Journal => Some(Asked::Journal(journal_length(number(text)?)?)),
             Word::Count(way) => Some(Asked::Run(way, number(text)?)),
         }
     }

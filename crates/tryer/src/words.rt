@@ -1,6 +1,8 @@
 // words.rt - the words after the program's name: which addresses, steps, start and stack they ask, and the name of a ROM's file.
 // Means: nothing; proved safe.
 // Uses: bus.  Source: [ours].
+ghost use Rattle.std.specs.Prelude.{◌≤◌};
+
 use bus::Window;
 
 // how many bytes a memory has here
@@ -23,7 +25,9 @@ pub struct Asked<'a> {
 }
 
 // The number of 32 bits that text spells in this base.
-fn number(text: &[u8], base: u32) -> Option<u32> {
+fn number(text: &[u8], base: u32) -> Option<u32>
+    requires { (2 ≤ base) × (base ≤ 36) }
+{
     if !text.iter().all(|&b| char::from(b).is_digit(base)) {
         return None;
     }
