@@ -40,7 +40,7 @@ fn follows(a: &u64, b: &u64) -> bool
     *b / 4294967296 == *a / 4294967296 + 1
 }
 
-// Writes the runs of a log's entries from i up to n.
+// Writes the runs of a log's entries from i up to n. The part stays i and n beside the log: the public promise speaks of between i n.
 pub fn put_runs(out: &mut [u8], at: usize, log: &[u64], i: usize, n: usize) -> Put
     requires { (i ≤ n) × (n ≤ length log.now) × (n ≤ byte_limit) × (at + length (runs_bytes (runs (between i n log.now))) ≤ length out.old) }
     ensures { PartPut out.old at (runs_bytes (runs (between i n log.now))) (length (runs (between i n log.now))) out.new result }
