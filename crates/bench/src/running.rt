@@ -238,6 +238,7 @@ impl Progress {
 // Runs so many steps. A write that fails is the only error.
 pub fn run_all(rt: &impl Print, lent: &mut Lent, way: Way, count: u64) -> io::Result<Progress> {
     let mut progress = Progress::new(count);
+    // A while: a part takes as many steps as the journal has room for.
     while progress.left > 0 {
         if way == Way::Undone {
             let part = lent.run_keeping(progress.left);

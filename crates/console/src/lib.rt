@@ -47,6 +47,7 @@ pub fn read_full(input: &mut impl Read, buf: &mut [u8]) -> io::Result<usize>
     ensures { IfOk result (λ n. n ≤ length buf.new) }
 {
     let mut done = 0;
+    // A while: a read may give fewer bytes than are asked for.
     while done < buf.len() {
         let n = input.read(&mut buf[done..])?;
         if n == 0 {

@@ -20,7 +20,6 @@ pub struct Cut {
 }
 
 // The number of the refusal or 0, the mark, the bytes moved and the records dropped.
-// Not a Result: machine::step hands the number to the C interface as it is, and RoomIs says it.
 #[derive(Clone, Copy)]
 pub struct Room {
     pub number: u32,
@@ -52,6 +51,7 @@ pub fn find_cut(
     let mut e = mark;
     let mut from = mark;
     let mut dropped = 0;
+    // A while: each record tells where the one before it ends.
     while 0 < e {
         e = shaped_record(journal, e, len, slots, bytes)?.start;
         if need <= e {

@@ -52,6 +52,7 @@ fn note_all(
     ensures { NotedIs len journal.now mark posts.new result }
 {
     let mut e = mark;
+    // A while: each record tells where the one before it ends.
     while 0 < e {
         let Some(last) = shaped_record(journal, e, len, slots, bytes) else {
             return false;

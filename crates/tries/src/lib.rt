@@ -15,7 +15,7 @@ use record::limits::LONGEST_RECORD;
 use refusals::Refusal;
 
 // Why a try ended: its steps are done; it started in supervisor state; its last step took an exception, or halted; a step was refused.
-// They stay numbers: `end` of TryAnswer is C's, `enum ibz_end` of c/ibezofanle.h. So are the refusals' numbers below: `enum ibz_number`.
+// They stay numbers: `end` of TryAnswer is C's, `enum ibz_end` of c/ibezofanle.h.
 pub const SPENT: u32 = 1;
 
 pub const SUPERVISED: u32 = 2;
