@@ -265,7 +265,6 @@ pub fn extend(r: &mut [u32; SLOTS], mem: &Parts, op: u32, f: Flow) -> Plan
 }
 
 // TST.
-#[tactic(auto, unfolding(crate::specs::Integer::test))]
 pub fn test(r: &mut [u32; SLOTS], mem: &Parts, op: u32, f: Flow) -> Plan
     ensures { record { r = r.new; p = result } ≡ test r.old (view_of (map (λ x. x.now) mem.now)) op f }
 {
