@@ -63,8 +63,7 @@ pub fn decimal(text: &[u8]) -> Option<u32> {
 // The number of a slot that text spells in base 10: with one digit, or two of which the first is 1.
 pub fn slot_number(text: &[u8]) -> Option<usize> {
     match text {
-        [_] => Some(decimal(text)? as usize),
-        [b'1', _] => Some(decimal(text)? as usize),
+        [_] | [b'1', _] => Some(decimal(text)? as usize),
         _ => None,
     }
 }
