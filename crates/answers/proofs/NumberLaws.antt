@@ -1,6 +1,6 @@
--- NumberLaws.antt - the laws that the functions of this crate cite: a refusal given or passed over, the slots of a reset, undo's answer.
+-- NumberLaws.antt - the laws that the functions of this crate cite: a refusal given or passed over, the slots of a reset.
 -- refuse, pass, refuse_not, pass_not, refuse_by, pass_by; first_refuses, first_passes; state_fits_is; end-of-memory, end-of-rom;
--- window_fits_is; no_room_dropping, no_room_keeping; reset_slots_is; undo_answer_done, undo_answer_refused.
+-- window_fits_is; no_room_dropping, no_room_keeping; reset_slots_is.
 -- Uses: bits, bus, bank, record, undo, exception, calls.
 use Prim.Native.Nat.{ℕ, ◌+◌, ◌-◌, ◌<◌, ◌^◌}
 use native.Mathlib.Omega.{arith}
@@ -18,11 +18,9 @@ use Rattle.bus.specs.Bus.{Board, board_of, all_of, read_long}
 use Rattle.bank.specs.Bank.{long, sr_of, mode_of}
 use Rattle.exception.specs.Exceptions.{fresh}
 use Rattle.record.specs.Limits.{longest_record, valid_status}
-use Rattle.undo.specs.declared.Answer.{Answer}
-use Rattle.undo.specs.declared.Answer.TheVariants.{Done, Refused}
 use Rattle.calls.specs.declared.Manner.{Manner}
 use Rattle.calls.specs.declared.Manner.TheVariants.{Dropping, Keeping}
-use Rattle.calls.specs.Calls.{state_fits, window_end, window_fits, first_tests, reset_slots, no_room, undo_answer}
+use Rattle.calls.specs.Calls.{state_fits, window_end, window_fits, first_tests, reset_slots, no_room}
 use Rattle.calls.proofs.RefusalLaws.{first_passed, first_stopped}
 
 -- a refusal is given, or passed over, by its test or by the contrary of its test
@@ -86,11 +84,3 @@ module _ (m : List ℕ) where
   reset_slots_is d e x y p q r t h k =
       let a : x.value ≡ long x.value = omega arith in
       let b : y.value ≡ long y.value = omega arith in cc
-
--- undo's answer
-module _ (mark : ℕ) (a : Answer) where
-  pub undo_answer_done : (start : ℕ) → a ≡ Done start → record { number = 0; mark = start } ≡ undo_answer mark a
-  undo_answer_done start e = rw e
-
-  pub undo_answer_refused : a ≡ Refused → record { number = 8; mark = mark } ≡ undo_answer mark a
-  undo_answer_refused e = rw e

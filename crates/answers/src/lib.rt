@@ -11,7 +11,6 @@ use bus::Window;
 use calls::{Manner, UndoAnswer};
 use codes::SLOTS;
 use record::limits::LONGEST_RECORD;
-use undo::Answer;
 
 // Whether memory is of a length that no call refuses.
 pub fn memory_fits(memory: &[u8]) -> bool
@@ -254,15 +253,15 @@ pub fn undo_number(
     0
 }
 
-// The answer of an undo that no other number refuses: 8 where the last record is not well formed.
-pub fn undo_answer(mark: usize, a: Answer) -> UndoAnswer
+// The answer of an undo that no other number refuses: 8 where the last record is not well formed, and so a is none.
+pub fn undo_answer(mark: usize, a: Option<usize>) -> UndoAnswer
     ensures { result ≡ undo_answer mark a }
 {
     match a {
-        Answer::Done(start) => UndoAnswer {
+        Some(start) => UndoAnswer {
             number: 0,
             mark: start,
         },
-        Answer::Refused => UndoAnswer { number: 8, mark },
+        None => UndoAnswer { number: 8, mark },
     }
 }

@@ -15,7 +15,7 @@ use Rattle.numbers.specs.Number.{written, back}
 use Rattle.numbers.proofs.WrittenLaws.{back_written, length_written}
 use Rattle.step.specs.Steps.{one_step}
 use Rattle.undo.specs.Undo.{undo_of}
-use Rattle.undo.specs.declared.Answer.TheVariants.{Done}
+use Rattle.std.specs.Prelude.{Some}
 use Rattle.undo.proofs.UndoLaws.{undo_of_record, undo_by_back}
 use Rattle.calls.specs.declared.Manner.{Manner}
 use Rattle.calls.specs.Calls.{RunCall}
@@ -36,7 +36,7 @@ mark_after r a = refl
 module _ (r : Request) (a : Seen) (v : Valid a.slots a.memory) (o : BoardFits a.board a.memory) (j : List ℕ)
     (room : (one_more r a).mark ≤ length j) (last : back j (one_more r a).mark ≡ reverse (record_after r a) ++ back j a.mark) where
   undone_to : undo_of (one_more r a).slots (one_more r a).memory j (one_more r a).mark
-      ≡ record { slots = a.slots; memory = a.memory; answer = Done a.mark }
+      ≡ record { slots = a.slots; memory = a.memory; answer = Some a.mark }
   unfolding one_more record_after
   undone_to =
       let t = one_step a.board a.slots a.memory r.level r.vector in

@@ -16,7 +16,7 @@ use Rattle.record.specs.Limits.{ValidBytes}
 use Rattle.record.specs.Change.{Change, restore}
 use Rattle.undo.specs.Undo.{Record, found, none, well_formed, undo_of}
 use Rattle.undo.specs.Formed.{Formed}
-use Rattle.undo.specs.declared.Answer.TheVariants.{Done}
+use Rattle.std.specs.Prelude.{Some}
 use Rattle.undo.proofs.ReadLaws.{length_back}
 use Rattle.undo.proofs.UndoLaws.{undo_when_found}
 use Rattle.undo.proofs.FormedLaws.{formed_when_found, found_when_formed, start_of_formed, none_when_unformed}
@@ -63,7 +63,7 @@ module _ (board : Board) (s m j : List ℕ) (mark : ℕ) where
     undo_done_when_formed start ss bs f =
         let at = start_of_formed s m j mark start ss bs f in
         let place : length (back j start) ≡ start = length_back j start (omega (arith, at, f.in_journal)) in
-        let undone : undo_of s m j mark ≡ record { slots = restore ss s; memory = restore bs m; answer = Done start } =
+        let undone : undo_of s m j mark ≡ record { slots = restore ss s; memory = restore bs m; answer = Some start } =
         undo_when_found s m j mark ss bs (back j start) (found_when_formed s m j mark start ss bs f memory_size) ∙ rw place in
         undo_accepted board s m j mark start (restore ss s) (restore bs m) tests_pass undone
 

@@ -22,8 +22,7 @@ use Rattle.bits.proofs.BitsLaws.{pick_cases, and_left, and_right}
 use Rattle.bus.specs.Bus.{Board}
 use Rattle.bank.specs.Bank.{pc_of, sr_of, mode_of}
 use Rattle.record.specs.Limits.{longest_record, valid_status}
-use Rattle.undo.specs.declared.Answer.{Answer}
-use Rattle.undo.specs.declared.Answer.TheVariants.{Done, Refused}
+use Rattle.std.specs.Prelude.{Option, Some, None}
 use Rattle.undo.specs.Undo.{Outcome, none, well_formed, undo_of}
 use Rattle.undo.proofs.UndoLaws.{undo_when_none, none_when_refused}
 use Rattle.oldest.specs.Room.{Way, rows, torn, rows_of}
@@ -406,9 +405,9 @@ module _ (board : Board) (s m j : List ℕ) (mark : ℕ) where
   record_given : Given (record { number = 8; applies = well_formed s m j mark ≡ none } ∷ []) (undo_answer mark (undo_of s m j mark).answer).number
   record_given = go (undo_of s m j mark).answer refl
     where
-      go : (a : Answer) → (undo_of s m j mark).answer ≡ a → Given (record { number = 8; applies = well_formed s m j mark ≡ none } ∷ []) (undo_answer mark a).number
-      go (Done start) e = later (λ q. let r : Done start ≡ Refused = sym e ∙ ap (λ (o : Outcome). o.answer) (undo_when_none s m j mark q) in absurd (let z : ◌≡◌ {A = ℕ} 0 1 = cc in omega arith)) zero_at_end
-      go Refused e = this (none_when_refused s m j mark e) refl
+      go : (a : Option ℕ) → (undo_of s m j mark).answer ≡ a → Given (record { number = 8; applies = well_formed s m j mark ≡ none } ∷ []) (undo_answer mark a).number
+      go (Some start) e = later (λ q. let r : Some start ≡ None = sym e ∙ ap (λ (o : Outcome). o.answer) (undo_when_none s m j mark q) in absurd (let z : ◌≡◌ {A = ℕ} 0 1 = cc in omega arith)) zero_at_end
+      go None e = this (none_when_refused s m j mark e) refl
 
   -- the tests, and then the record
   abbrev undo_choice : ℕ → ℕ
@@ -434,7 +433,7 @@ module _ (board : Board) (s m j : List ℕ) (mark : ℕ) where
   undo_verdict = verdict (undo_table board s m j mark) (undo_call board s m j mark).a.number (omega arith) (rw undo_call_number undo_given)
 
   -- undo accepted by its tests and its record: the old values put back, and the mark at the record's start
-  pub undo_accepted : (start : ℕ) (t n : List ℕ) → undo_number board s m j mark ≡ 0 → undo_of s m j mark ≡ record { slots = t; memory = n; answer = Done start }
+  pub undo_accepted : (start : ℕ) (t n : List ℕ) → undo_number board s m j mark ≡ 0 → undo_of s m j mark ≡ record { slots = t; memory = n; answer = Some start }
       → undo_call board s m j mark ≡ record { s = t; m = n; a = record { number = 0; mark = start } }
   unfolding undo_call
   undo_accepted start t n e f = rw (e, f)
@@ -444,11 +443,11 @@ module _ (board : Board) (s m j : List ℕ) (mark : ℕ) where
   unfolding undo_call
   undo_refused h = go (eqb (undo_number board s m j mark) 0) refl (undo_of s m j mark).answer refl
     where
-      go : (b : Bool) → eqb (undo_number board s m j mark) 0 ≡ b → (a : Answer) → (undo_of s m j mark).answer ≡ a
+      go : (b : Bool) → eqb (undo_number board s m j mark) 0 ≡ b → (a : Option ℕ) → (undo_of s m j mark).answer ≡ a
           → undo_call board s m j mark ≡ record { s = s; m = m; a = record { number = (undo_call board s m j mark).a.number; mark = mark } }
       go false e a f = rw e
-      go true e (Done start) f = absurd (h (rw (e, f)))
-      go true e Refused f = let u = undo_when_none s m j mark (none_when_refused s m j mark f) in rw (e, u)
+      go true e (Some start) f = absurd (h (rw (e, f)))
+      go true e None f = let u = undo_when_none s m j mark (none_when_refused s m j mark f) in rw (e, u)
 
   pub undo_number_when : memory_fits m ≡ true → state_fits s ≡ true → BoardFits board m → mark ≤ length j → (mark ≡ 0 → ⊥) → undo_number board s m j mark ≡ 0
   unfolding undo_number

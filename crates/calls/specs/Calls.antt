@@ -3,7 +3,7 @@
 -- reset: the fixed state). Window and ROM are set by the host: a reset gives a window, step, run and undo read both, none changes either.
 -- Step and run go by a manner: where the journal is full, Dropping drops its oldest records, and Keeping takes no step.
 -- Laws: proofs/.  Source: [01 Calls and what they give back], [01 The journal], [K2], [K5], [K7], [K10].
-use Rattle.std.specs.Prelude.{ℕ, zero, suc, ◌+◌, ◌-◌, ◌%◌, Bool, true, false, ◌&&◌, ◌||◌, not, List, [], ◌∷◌, length, ltb, leb, eqb}
+use Rattle.std.specs.Prelude.{ℕ, zero, suc, ◌+◌, ◌-◌, ◌%◌, Bool, true, false, ◌&&◌, ◌||◌, not, Option, Some, None, List, [], ◌∷◌, length, ltb, leb, eqb}
 use Rattle.codes.specs.Codes.{Running, Stopped, Halted, ResetStatus, LeastMemory, MostMemory, RomStart, MostRom, TopLevel, MostSteps, NoEvent, DataRead}
 use Rattle.bits.specs.Bits.{pick}
 use Rattle.bus.specs.declared.Window.{Window}
@@ -14,8 +14,6 @@ use Rattle.step.specs.Steps.{one_step, step_clocks}
 use Rattle.numbers.specs.Number.{written}
 use Rattle.record.specs.Limits.{longest_record, valid_status}
 use Rattle.record.specs.Change.{step_record}
-use Rattle.undo.specs.declared.Answer.{Answer}
-use Rattle.undo.specs.declared.Answer.TheVariants.{Done, Refused}
 use Rattle.undo.specs.Undo.{undo_of}
 use Rattle.oldest.specs.declared.Room.{Room}
 use Rattle.oldest.specs.Room.{Way, rows, torn, rows_of, RoomCall, as_it_was, make_room, capped}
@@ -212,9 +210,9 @@ undo_number board s m j mark =
     (pick (eqb mark 0) 7 0))
 
 -- refusal 8 where the last record is not well formed  [01 Calls, table] [01 The journal]
-abbrev pub undo_answer : ℕ → Answer → UndoAnswer
-undo_answer mark (Done start) = record { number = 0; mark = start }
-undo_answer mark Refused = record { number = 8; mark = mark }
+abbrev pub undo_answer : ℕ → Option ℕ → UndoAnswer
+undo_answer mark (Some start) = record { number = 0; mark = start }
+undo_answer mark None = record { number = 8; mark = mark }
 
 -- an undo, or its refusal, which alters nothing  [01 Calls, table] [01 The journal]
 unfoldable pub undo_call : Board → List ℕ → List ℕ → List ℕ → ℕ → UndoCall

@@ -1,17 +1,16 @@
 -- ConvertLaws.antt - a whole journal in the code: one law for each turn or return.
 -- Speaks of: ConvertedIs, SpaceIs and MeasuredIs of specs/Answers.antt, convert of specs/Forms.antt.  Assumes nothing.  Source: [K8].
-use Prim.Native.Nat.{ℕ, ◌+◌, ◌-◌, ◌≤◌, ◌<◌}
+use Prim.Native.Nat.{ℕ, zero, suc, ◌+◌, ◌-◌, ◌≤◌, ◌<◌}
 use mathlib.Core.Path.{◌≡◌, refl, sym, ap, ◌∙◌}
-use mathlib.Core.Bool.{Bool, true, false}
 use mathlib.Core.List.{List, [], ◌∷◌, ◌++◌, append_assoc}
 use native.Mathlib.Nat.{zero-add}
-use native.Mathlib.Numerals.{add-one}
 use native.Mathlib.Omega.{arith}
-use lib.ListN.{length, get_or, set, take, drop, length-append}
-use lib.Seq.{take_at, drop_at, take-suc, take-take, take-append-le, length-take-le}
+use lib.ListN.{length, get_or, take, drop, length-append}
+use lib.Seq.{take_at, drop_at, drop-drop, take-take, take-append-le, length-take-le}
+use borrow.Rule.Slice.PartMut.{put_mid, post_of}
 use Rattle.codes.specs.Codes.{Addresses}
 use Rattle.numbers.specs.Number.{back, written}
-use Rattle.numbers.proofs.WrittenLaws.{length_written, written_snoc}
+use Rattle.numbers.proofs.WrittenLaws.{length_written}
 use Rattle.record.specs.Limits.{longest_record_two}
 use Rattle.undo.specs.Undo.{found, none}
 use Rattle.oldest.specs.Room.{Row, rows, torn, read_rows}
@@ -20,25 +19,16 @@ use Rattle.oldest.proofs.RowLaws.{rows_append, older_when_read}
 use Rattle.runs.specs.Answers.{BytesPut}
 use Rattle.forms.specs.declared.Form.{Form}
 use Rattle.forms.specs.declared.FormAnswer.{FormAnswer}
-use Rattle.forms.specs.declared.Converted.{Converted}
-use Rattle.forms.specs.declared.Converted.TheVariants as c
-use Rattle.forms.specs.declared.Measured.{Measured}
-use Rattle.forms.specs.declared.Measured.TheVariants as m
-use Rattle.forms.specs.declared.Space.{Space}
+use Rattle.forms.specs.declared.Unfit.{Unfit}
+use Rattle.forms.specs.declared.Unfit.TheVariants.{NotShaped, TooShort}
+use Rattle.std.specs.Prelude.{Option, Ok, Err}
 use Rattle.forms.specs.Forms.{other, record_in, read_in, journal_in, rows_in, not_shaped, too_short, FormCall, convert}
 use Rattle.forms.specs.Promises.{ConvertPromise}
-use Rattle.forms.specs.Answers.{ConvertedIs, SpaceIs, MeasuredIs}
+use Rattle.forms.specs.Answers.{SpaceIs, MeasuredIs, refusal}
 use Rattle.forms.proofs.FormLaws.{form_puts, longest_in}
 use Rattle.forms.proofs.JournalLaws.{convert_torn, convert_short, convert_done}
 
 -- ---- one record
-module _ (form : Form) (j : List ℕ) (mark : ℕ) (out : List ℕ) (x : Converted) (t : ConvertedIs form j mark out x) where
-  pub converted_nothing : x ≡ c.Nothing → ConvertedIs form j mark out c.Nothing
-  converted_nothing q = rw q at t
-
-  pub converted_record : (len s : ℕ) → x ≡ c.Record len s → ConvertedIs form j mark out (c.Record len s)
-  converted_record len s q = rw q at t
-
 -- a record that was read fits into out, and stands there
 pub other_fits : (form : Form) (j : List ℕ) (mark : ℕ) (r : Row) (t : List ℕ) → mark ≤ length j → ((k : ℕ) → get_or j k 0 < 256)
     → read_in form (back j mark) ≡ found r.slots r.bytes t → length (record_in (other form) r) ≤ longest_record_two
@@ -53,34 +43,13 @@ put_taken out₀ bs out r w h =
     (e, ap (λ (k : ℕ). take k out) e ∙ ap (take (length bs)) w.bytes ∙ take_at bs (drop (0 + length bs) out₀) (length bs) refl, omega (arith, len))
 
 -- ---- a copy
-pub copy_step : (t : List ℕ) (at : ℕ) (from : List ℕ) (k : ℕ) → k < length from → at + k < length t
-    → set (written t at (take k from)) (at + k) (get_or from k 0) ≡ written t at (take (k + 1) from)
-copy_step t at from k h l =
-    let len : length (take k from) ≡ k = length-take-le k from (omega arith) in
-    let next : take k from ++ get_or from k 0 ∷ [] ≡ take (k + 1) from = rw add-one (sym (take-suc from k 0 h)) in
-    ap (λ (m : ℕ). set (written t at (take k from)) (at + m) (get_or from k 0)) (sym len)
-    ∙ written_snoc t at (take k from) (get_or from k 0) (omega (arith, len))
-    ∙ ap (written t at) next
+pub copied_in : (t : List ℕ) (p n : ℕ) (bs : List ℕ) → length bs ≡ n → put_mid p n t bs ≡ written t p bs
+copied_in t p n bs e =
+    sym (append_assoc (take p t) bs (post_of p n t))
+    ∙ ap (λ (l : List ℕ). take p t ++ bs ++ l) (drop-drop n p t ∙ ap (λ (k : ℕ). drop (p + k) t) (sym e))
 
 -- ---- space
-no_bool : {A : Type 0} (b : Bool) → b ≡ true → b ≡ false → A
-no_bool b p q = absurd (let z : ◌≡◌ {A = ℕ} 0 1 = cc in omega arith)
-
-pub less_not : (s : Space) (n space taken : ℕ) → s.fits ≡ false → SpaceIs space taken s → SpaceIs space (n + taken) s
-less_not s n space taken e w = record { left = λ q. no_bool s.fits q e; short = λ q. let h = w.short q in omega arith }
-
-pub less_short : (s x : Space) (n space taken : ℕ) → s.fits ≡ true → s.left < n → x.fits ≡ false → SpaceIs space taken s
-    → SpaceIs space (n + taken) x
-less_short s x n space taken e h f w = record { left = λ q. no_bool x.fits q f; short = λ q. let l = w.left e in omega arith }
-
-pub less_fits : (s x : Space) (n space taken : ℕ) → s.fits ≡ true → n ≤ s.left → x.fits ≡ true → x.left ≡ s.left - n → SpaceIs space taken s
-    → SpaceIs space (n + taken) x
-less_fits s x n space taken e h f g w = record { left = λ q. let l = w.left e in omega arith; short = λ q. no_bool x.fits f q }
-
-pub space_start : (space : ℕ) → SpaceIs space 0 (record { fits = true; left = space })
-space_start space = record { left = λ q. zero-add space; short = λ q. no_bool true refl q }
-
-pub space_more : (form : Form) (space len : ℕ) (r : Row) (acc : List Row) (s : Space) → len ≡ length (record_in form r)
+pub space_more : (form : Form) (space len : ℕ) (r : Row) (acc : List Row) (s : Option ℕ) → len ≡ length (record_in form r)
     → SpaceIs space (len + length (journal_in form acc)) s
     → SpaceIs space (length (journal_in form (r ∷ acc))) s
 space_more form space len r acc s e w =
@@ -116,25 +85,6 @@ module _ (form : Form) (j : List ℕ) (e : ℕ) (acc : List Row) (some : 0 < e) 
 
 pub passed_end : (form : Form) (j : List ℕ) (e : ℕ) (acc : List Row) → e ≡ 0 → Passed form j e acc → rows_in form j ≡ rows acc
 passed_end form j e acc z p = p.way ∙ way_end (read_in form) p.fuel j e acc z
-
--- ---- what measuring answered
-module _ (form : Form) (j : List ℕ) (space : ℕ) (x : Measured) (t : MeasuredIs form j space x) where
-  pub measured_fits : (k : ℕ) → x ≡ m.Fits k → MeasuredIs form j space (m.Fits k)
-  measured_fits k q = rw q at t
-
-  pub measured_torn : x ≡ m.Torn → MeasuredIs form j space m.Torn
-  measured_torn q = rw q at t
-
-  pub measured_short : x ≡ m.Short → MeasuredIs form j space m.Short
-  measured_short q = rw q at t
-
-module _ (form : Form) (j : List ℕ) (space : ℕ) (rs : List Row) (s : Space) (e : rows_in form j ≡ rows rs)
-    (w : SpaceIs space (length (journal_in (other form) rs)) s) where
-  pub measured_taken : s.fits ≡ true → MeasuredIs form j space (m.Fits (space - s.left))
-  measured_taken f = let h = w.left f in (rs, e, omega arith, omega arith)
-
-  pub measured_over : s.fits ≡ false → MeasuredIs form j space m.Short
-  measured_over f = (rs, e, w.short f)
 
 -- ---- writing from the end
 written_before : (l : List ℕ) (at : ℕ) (bs cs : List ℕ) → at + length bs + length cs ≤ length l
@@ -184,6 +134,12 @@ torn_not rs e = absurd (let x : ◌≡◌ {A = ℕ} 0 1 = cc in omega arith)
 pub never_torn : {A : Type 0} (form : Form) (j : List ℕ) (rs : List Row) → rows_in form j ≡ rows rs → rows_in form j ≡ torn → A
 never_torn form j rs e f = torn_not rs (sym f ∙ e)
 
+-- where a journal of records has no record more, all were read
+pub passed_all : (form : Form) (j : List ℕ) (e : ℕ) (acc rs : List Row) → Passed form j e acc → rows_in form j ≡ rows rs
+    → read_in form (back j e) ≡ none → e ≡ 0
+passed_all form j zero acc rs p q n = refl
+passed_all form j (suc e) acc rs p q n = never_torn form j rs q (passed_torn form j (suc e) acc (omega arith) p n)
+
 rows_same : (a b : List Row) → rows a ≡ rows b → a ≡ b
 rows_same a b e = cc
 
@@ -202,13 +158,11 @@ promised : (form : Form) (j t t' : List ℕ) (a : FormAnswer) → convert form j
 promised form j t t' a e = record { target = ap (λ (r : FormCall). r.target) (sym e); answer = ap (λ (r : FormCall). r.a) (sym e) }
 
 module _ (form : Form) (j t : List ℕ) where
-  pub promise_when_torn : MeasuredIs form j (length t) m.Torn → ConvertPromise form j t t (record { number = not_shaped; length = 0 })
-  promise_when_torn e = promised form j t t (record { number = not_shaped; length = 0 }) (convert_torn form j t e)
+  pub promise_when_unfit : (u : Unfit) → MeasuredIs form j (length t) (Err u) → ConvertPromise form j t t (record { number = refusal u; length = 0 })
+  promise_when_unfit NotShaped e = promised form j t t (record { number = not_shaped; length = 0 }) (convert_torn form j t e)
+  promise_when_unfit TooShort w = promised form j t t (record { number = too_short; length = 0 }) (convert_short form j t w.0 w.1 w.2)
 
-  pub promise_when_short : MeasuredIs form j (length t) m.Short → ConvertPromise form j t t (record { number = too_short; length = 0 })
-  promise_when_short w = promised form j t t (record { number = too_short; length = 0 }) (convert_short form j t w.0 w.1 w.2)
-
-  pub promise_when_fits : (k : ℕ) (t' : List ℕ) → MeasuredIs form j (length t) (m.Fits k) → t' ≡ (convert form j t).target
+  pub promise_when_fits : (k : ℕ) (t' : List ℕ) → MeasuredIs form j (length t) (Ok k) → t' ≡ (convert form j t).target
       → ConvertPromise form j t t' (record { number = 0; length = k })
   promise_when_fits k t' w e =
       let done = convert_done form j t w.0 w.1 (omega (arith, w.2, w.3)) in

@@ -3,15 +3,15 @@
 // Uses: runs, oldest, undo, record, numbers, codes.  Source: [K8].
 #![tactic(auto)]
 
-ghost use Rattle.std.specs.Prelude.{◌≡◌, ◌+◌, ◌≤◌, ◌<◌, length, take};
-ghost use Rattle.numbers.specs.Number.{back, written};
+ghost use Rattle.std.specs.Prelude.{◌≡◌, ◌+◌, ◌≤◌, ◌<◌, map, length};
+ghost use Rattle.numbers.specs.Number.{back};
 ghost use Rattle.record.specs.Limits.{slot_limit, byte_limit, longest_record_two};
-ghost use Rattle.record.specs.Change.{between, changes, changes_bytes};
+ghost use Rattle.record.specs.Change.{unpack, changes_bytes};
 ghost use Rattle.runs.specs.Answers.{LoggedIs, BytesPut, PartPut};
 ghost use Rattle.forms.specs.declared.Form.TheVariants.{One, Two};
 ghost use Rattle.forms.specs.Forms.{other, record_in, read_in, convert};
 ghost use Rattle.forms.specs.Promises.{ConvertPromise};
-ghost use Rattle.forms.specs.Answers.{part_bytes, part_count, ConvertedIs, Less, MeasuredIs};
+ghost use Rattle.forms.specs.Answers.{part_bytes, part_count, ConvertedIs, Less, MeasuredIs, refusal};
 
 use numbers::put_number;
 use record::Put;
@@ -19,38 +19,30 @@ use record::limits::{BYTE_LIMIT, LONGEST_RECORD_TWO, SLOT_LIMIT};
 use runs::Logged;
 use runs::put::put_runs;
 use runs::read::shaped_two;
-use undo::{Last, shaped_record};
+use undo::shaped_record;
 
 // The forms of a journal: the one that steps write, and the one for posting.
-#[derive(Clone, Copy)]
+#[derive(Clone, Copy, PartialEq, Eq)]
 pub enum Form {
     One,
     Two,
 }
 
-// A record that was converted: its length in the other form, and where it starts in the journal; or none.
+// A record that was converted: its length in the other form, and where it starts in the journal.
 #[derive(Clone, Copy)]
-pub enum Converted {
-    Record(usize, usize),
-    Nothing,
+pub struct Converted {
+    pub length: usize,
+    pub start: usize,
 }
 
-// The length of the journal in the other form; or a record of it is not well shaped; or there is too little space.
-#[derive(Clone, Copy)]
-pub enum Measured {
-    Fits(usize),
-    Torn,
-    Short,
+// Why a journal is not converted: a record of it is not well shaped, or the target is too short.
+#[derive(Clone, Copy, PartialEq, Eq)]
+pub enum Unfit {
+    NotShaped,
+    TooShort,
 }
 
-// The space that is left, or that there was too little.
-#[derive(Clone, Copy)]
-pub struct Space {
-    pub fits: bool,
-    pub left: usize,
-}
-
-// The number, 0 or a refusal, and the length of the other form.
+// The number, 0 or a refusal, and the length of the other form. C reads it, so it is no Result.
 #[repr(C)]
 #[derive(Clone, Copy)]
 pub struct FormAnswer {
@@ -66,6 +58,18 @@ const NOT_SHAPED: u32 = 8;
 
 const TOO_SHORT: u32 = 11;
 
+// The number of a refusal.
+impl From<Unfit> for u32 {
+    ghost from_gives = { λ unfit number. number ≡ refusal unfit };
+
+    fn from(unfit: Unfit) -> u32 {
+        match unfit {
+            Unfit::NotShaped => NOT_SHAPED,
+            Unfit::TooShort => TOO_SHORT,
+        }
+    }
+}
+
 // The form that a journal is converted into.
 fn other(form: Form) -> Form
     ensures { result ≡ other form }
@@ -79,14 +83,17 @@ fn other(form: Form) -> Form
 // ---- one record
 
 // Reads the well-shaped record of form 1 that ends at the mark.
-fn read_one(journal: &[u8], mark: usize, slots: &mut [u64], bytes: &mut [u64]) -> Logged
+fn read_one(journal: &[u8], mark: usize, slots: &mut [u64], bytes: &mut [u64]) -> Option<Logged>
     requires { (mark ≤ length journal.now) × (slot_limit ≤ length slots.old) × (byte_limit ≤ length bytes.old) }
     ensures { LoggedIs (read_in One (back journal.now mark)) journal.now mark slots.new bytes.new result }
 {
-    let Last::Found(ns, nb, s) = shaped_record(journal, mark, ADDRESSES, slots, bytes) else {
-        return Logged::Nothing;
-    };
-    Logged::Record(ns, 0, nb, s)
+    let last = shaped_record(journal, mark, ADDRESSES, slots, bytes)?;
+    Some(Logged {
+        slots: last.slots,
+        from: 0,
+        to: last.bytes,
+        start: last.start,
+    })
 }
 
 // Reads the well-shaped record that ends at the mark.
@@ -96,7 +103,7 @@ pub fn read_in(
     mark: usize,
     slots: &mut [u64],
     bytes: &mut [u64],
-) -> Logged
+) -> Option<Logged>
     requires { (mark ≤ length journal.now) × (slot_limit ≤ length slots.old) × (byte_limit ≤ length bytes.old) }
     ensures { LoggedIs (read_in form (back journal.now mark)) journal.now mark slots.new bytes.new result }
 {
@@ -106,142 +113,98 @@ pub fn read_in(
     }
 }
 
-// Writes the changes of a log's entries from i up to n.
-fn put_changes(out: &mut [u8], at: usize, log: &[u64], i: usize, n: usize) -> Put
-    requires { (i ≤ n) × (n ≤ length log.now) × (n ≤ byte_limit) × (at + length (changes_bytes (between i n log.now)) ≤ length out.old) }
-    ensures { PartPut out.old at (changes_bytes (between i n log.now)) (length (between i n log.now)) out.new result }
+// Writes the changes that a log holds.
+fn put_changes(out: &mut [u8], at: usize, log: &[u64]) -> Put
+    requires { (length log.now ≤ byte_limit) × (at + length (changes_bytes (map unpack log.now)) ≤ length out.old) }
+    ensures { PartPut out.old at (changes_bytes (map unpack log.now)) (length (map unpack log.now)) out.new result }
 {
-    let mut k = i;
     let mut p = at;
-    while k < n {
-        let e = log[k];
-        p = put_number(out, p, (e / 4294967296) as u32);
-        p = put_number(out, p, (e % 4294967296) as u32);
-        k += 1;
+    for e in log {
+        p = put_number(out, p, (*e / 4294967296) as u32);
+        p = put_number(out, p, (*e % 4294967296) as u32);
     }
     Put {
         at: p,
-        count: (n - i) as u32,
+        count: log.len() as u32,
     }
 }
 
-// Writes the part of a record that has the memory's changes: those of a log's entries from i up to n.
-fn put_part(form: Form, out: &mut [u8], at: usize, log: &[u64], i: usize, n: usize) -> Put
-    requires { (i ≤ n) × (n ≤ length log.now) × (n ≤ byte_limit) × (at + length (part_bytes form (between i n log.now)) ≤ length out.old) }
-    ensures { PartPut out.old at (part_bytes form (between i n log.now)) (part_count form (between i n log.now)) out.new result }
+// Writes the part of a record that has the memory's changes: those that a log holds.
+fn put_part(form: Form, out: &mut [u8], at: usize, log: &[u64]) -> Put
+    requires { (length log.now ≤ byte_limit) × (at + length (part_bytes form (map unpack log.now)) ≤ length out.old) }
+    ensures { PartPut out.old at (part_bytes form (map unpack log.now)) (part_count form (map unpack log.now)) out.new result }
 {
     match form {
-        Form::One => put_changes(out, at, log, i, n),
-        Form::Two => put_runs(out, at, log, i, n),
+        Form::One => put_changes(out, at, log),
+        Form::Two => put_runs(out, at, log, 0, log.len()),
     }
 }
 
-// Writes a record at the start of out: ns slots, and the bytes of the entries from i up to n.
-fn put_in(
-    form: Form,
-    out: &mut [u8],
-    slots: &[u64],
-    ns: usize,
-    bytes: &[u64],
-    i: usize,
-    n: usize,
-) -> usize
-    requires ns_in_bounds { (ns ≤ length slots.now) × (ns ≤ slot_limit) × (i ≤ n) × (n ≤ length bytes.now) × (n ≤ byte_limit) }
-    requires bytes_in_bounds { length (record_in form (record { slots = changes slots.now ns; bytes = between i n bytes.now })) ≤ length out.old }
-    ensures { BytesPut out.old 0 (record_in form (record { slots = changes slots.now ns; bytes = between i n bytes.now })) out.new result }
+// Writes a record at the start of out: the slots' changes and the memory's, as two logs hold them.
+fn put_in(form: Form, out: &mut [u8], slots: &[u64], bytes: &[u64]) -> usize
+    requires few { (length slots.now ≤ slot_limit) × (length bytes.now ≤ byte_limit) }
+    requires room { length (record_in form (record { slots = map unpack slots.now; bytes = map unpack bytes.now })) ≤ length out.old }
+    ensures { BytesPut out.old 0 (record_in form (record { slots = map unpack slots.now; bytes = map unpack bytes.now })) out.new result }
 {
-    let a = put_changes(out, 0, slots, 0, ns);
-    let b = put_part(form, out, a.at, bytes, i, n);
+    let a = put_changes(out, 0, slots);
+    let b = put_part(form, out, a.at, bytes);
     let p = put_number(out, b.at, a.count);
     put_number(out, p, b.count)
 }
 
 // Puts the record that ends at the mark into the first bytes of out, in the other form.
-fn convert_record(form: Form, journal: &[u8], mark: usize, out: &mut [u8]) -> Converted
+fn convert_record(form: Form, journal: &[u8], mark: usize, out: &mut [u8]) -> Option<Converted>
     requires { (mark ≤ length journal.now) × (longest_record_two ≤ length out.old) }
     ensures { ConvertedIs form journal.now mark out.new result }
 {
     let mut s = [0u64; SLOT_LIMIT];
     let mut b = [0u64; BYTE_LIMIT];
-    let Logged::Record(ns, i, n, start) = read_in(form, journal, mark, &mut s, &mut b) else {
-        return Converted::Nothing;
-    };
-    let len = put_in(other(form), out, &s, ns, &b, i, n);
-    Converted::Record(len, start)
+    let r = read_in(form, journal, mark, &mut s, &mut b)?;
+    let length = put_in(other(form), out, &s[..r.slots], &b[r.from..r.to]);
+    Some(Converted {
+        length,
+        start: r.start,
+    })
 }
 
 // ---- a whole journal: measured on a first way back, and written on a second
 
-// Copies the first n bytes of from into target at a place.
-fn copy(target: &mut [u8], at: usize, from: &[u8], n: usize)
-    requires { (n ≤ length from.now) × (at + n ≤ length target.old) }
-    ensures { target.new ≡ written target.old at (take n from.now) }
+// The space after n bytes more are taken, if there was enough.
+fn less(space: Option<usize>, n: usize) -> Option<usize>
+    ensures { Less space n result }
 {
-    let mut k = 0;
-    while k < n {
-        target[at + k] = from[k];
-        k += 1;
-    }
-}
-
-// The space after n bytes more are taken.
-fn less(s: Space, n: usize) -> Space
-    ensures { Less s n result }
-{
-    if !s.fits {
-        return s;
-    }
-    if s.left < n {
-        return Space {
-            fits: false,
-            left: 0,
-        };
-    }
-    Space {
-        fits: true,
-        left: s.left - n,
-    }
+    space?.checked_sub(n)
 }
 
 // The length of the journal in the other form, if every record is well shaped and space bytes suffice. Where they do not the way goes on:
 // a record that is not well shaped comes first.
-fn measure(form: Form, journal: &[u8], space: usize) -> Measured
+fn measure(form: Form, journal: &[u8], space: usize) -> Result<usize, Unfit>
     ensures { MeasuredIs form journal.now space result }
 {
     let mut out = [0u8; LONGEST_RECORD_TWO];
     let mut e = journal.len();
-    let mut r = Space {
-        fits: true,
-        left: space,
-    };
+    let mut left = Some(space);
+    // Stays a while: where the record before ends is known once this one is read.
     while 0 < e {
-        let Converted::Record(len, s) = convert_record(form, journal, e, &mut out) else {
-            return Measured::Torn;
-        };
-        r = less(r, len);
-        e = s;
+        let r = convert_record(form, journal, e, &mut out).ok_or(Unfit::NotShaped)?;
+        left = less(left, r.length);
+        e = r.start;
     }
-    if r.fits {
-        return Measured::Fits(space - r.left);
-    }
-    Measured::Short
+    Ok(space - left.ok_or(Unfit::TooShort)?)
 }
 
 // Writes the journal in the other form, the last record first, into the first total bytes of target.
 fn write_back(form: Form, journal: &[u8], target: &mut [u8], total: usize)
-    requires { MeasuredIs form journal.now (length target.old) (Measured.Fits total) }
+    requires { MeasuredIs form journal.now (length target.old) (Ok total) }
     ensures { target.new ≡ (convert form journal.now target.old).target }
 {
     let mut out = [0u8; LONGEST_RECORD_TWO];
     let mut e = journal.len();
     let mut p = total;
-    while 0 < e {
-        let Converted::Record(len, s) = convert_record(form, journal, e, &mut out) else {
-            return;
-        };
-        p -= len;
-        copy(target, p, &out, len);
-        e = s;
+    while let Some(r) = convert_record(form, journal, e, &mut out) {
+        p -= r.length;
+        target[p..p + r.length].copy_from_slice(&out[..r.length]);
+        e = r.start;
     }
 }
 
@@ -249,23 +212,18 @@ fn write_back(form: Form, journal: &[u8], target: &mut [u8], total: usize)
 pub fn convert(form: Form, journal: &[u8], target: &mut [u8]) -> FormAnswer
     ensures { ConvertPromise form journal.now target.old target.new result }
 {
-    let measured = measure(form, journal, target.len());
-    match measured {
-        Measured::Torn => FormAnswer {
-            number: NOT_SHAPED,
-            length: 0,
-        },
-        Measured::Short => FormAnswer {
-            number: TOO_SHORT,
-            length: 0,
-        },
-        Measured::Fits(n) => {
+    match measure(form, journal, target.len()) {
+        Ok(n) => {
             write_back(form, journal, target, n);
             FormAnswer {
                 number: 0,
                 length: n,
             }
         }
+        Err(unfit) => FormAnswer {
+            number: u32::from(unfit),
+            length: 0,
+        },
     }
 }
 

@@ -13,7 +13,7 @@ use Rattle.bits.specs.Bits.{pick}
 use Rattle.bus.specs.Bus.{Board}
 use Rattle.record.specs.Limits.{longest_record}
 use Rattle.record.proofs.SizeLaws.{valid_bytes_from}
-use Rattle.undo.specs.declared.Answer.{Answer}
+use Rattle.std.specs.Prelude.{Option}
 use Rattle.undo.specs.Undo.{undo_of}
 use Rattle.oldest.specs.declared.Room.{Room}
 use Rattle.oldest.specs.Room.{make_room, RoomIs}
@@ -144,7 +144,7 @@ module _ (board : Board) (s m : List ℕ) (level vector : ℕ) (j : List ℕ) (m
 
 -- the public undo
 module _ (board : Board) (s m j : List ℕ) (mark k : ℕ) (e : k ≡ undo_number board s m j mark) where
-  pub undo_promised : eqb k 0 ≡ true → (s₁ m₁ : List ℕ) (a : Answer) (r : UndoAnswer) → undo_of s m j mark ≡ record { slots = s₁; memory = m₁; answer = a } → r ≡ undo_answer mark a → UndoPromise board s m j mark s₁ m₁ r
+  pub undo_promised : eqb k 0 ≡ true → (s₁ m₁ : List ℕ) (a : Option ℕ) (r : UndoAnswer) → undo_of s m j mark ≡ record { slots = s₁; memory = m₁; answer = a } → r ≡ undo_answer mark a → UndoPromise board s m j mark s₁ m₁ r
   unfolding undo_call
   undo_promised z s₁ m₁ a r u q = let y : undo_number board s m j mark ≡ 0 = sym e ∙ eqb-true k 0 z in record { slots = rw (y, u); memory = rw (y, u); answer = rw (y, u) q }
 

@@ -6,13 +6,6 @@
 ghost use Rattle.std.specs.Prelude.{◌≡◌, ◌+◌, ◌-◌, ◌*◌, ◌^◌, ◌≤◌, ◌<◌, length};
 ghost use Rattle.numbers.specs.Number.{number_bytes, written, GroupsIs, NumberIs};
 
-// A number and the place where it starts, or no number.
-#[derive(Clone, Copy)]
-pub enum Reading {
-    Number(u32, usize),
-    Bad,
-}
-
 // Writes v, which fits in one byte, at place at; returns the place after it.
 pub fn put_small(journal: &mut [u8], at: usize, v: u32) -> usize
     requires { (v < 128) × (at + length (number_bytes v) ≤ length journal.old) }
@@ -104,57 +97,56 @@ fn join_group(hi: u32, b: u8) -> u32
     hi * 128 + ((b - 128) as u32)
 }
 
-// The number, of at most k groups before its last, that ends at place end.
-fn read_groups(journal: &[u8], end: usize, k: u32) -> Reading
+// The number, of at most k groups before its last, that ends at place end, and the place where it starts; or none.
+fn read_groups(journal: &[u8], end: usize, k: u32) -> Option<(u32, usize)>
     requires { (end ≤ length journal.now) × (k ≤ 4) }
     ensures { GroupsIs k journal.now end result }
 {
     if end == 0 {
-        return Reading::Bad;
+        return None;
     }
     let e = end - 1;
     let b = journal[e];
     if b < 16 {
-        return Reading::Number(b as u32, e);
+        return Some((b as u32, e));
     }
     if k == 0 {
-        return Reading::Bad;
+        return None;
     }
     if b < 128 {
-        return Reading::Number(b as u32, e);
+        return Some((b as u32, e));
     }
-    let Reading::Number(hi, s) = read_groups(journal, e, k - 1) else {
-        return Reading::Bad;
-    };
+    let (hi, s) = read_groups(journal, e, k - 1)?;
     if hi == 0 {
-        return Reading::Bad;
+        return None;
     }
-    Reading::Number(join_group(hi, b), s)
+    Some((join_group(hi, b), s))
 }
 
-// The number that ends at place end. Most are of one or two bytes, and are read here; the longer ones group by group.
-pub fn read_number(journal: &[u8], end: usize) -> Reading
+// The number that ends at place end, and the place where it starts; or none. Most are of one or two bytes, and are read here; the longer
+// ones group by group.
+pub fn read_number(journal: &[u8], end: usize) -> Option<(u32, usize)>
     requires { end ≤ length journal.now }
     ensures { NumberIs journal.now end result }
 {
     if end == 0 {
-        return Reading::Bad;
+        return None;
     }
     let e = end - 1;
     let b = journal[e];
     if b < 128 {
-        return Reading::Number(b as u32, e);
+        return Some((b as u32, e));
     }
     if e == 0 {
-        return Reading::Bad;
+        return None;
     }
     let s = e - 1;
     let c = journal[s];
     if c == 0 {
-        return Reading::Bad;
+        return None;
     }
     if c < 128 {
-        return Reading::Number(join_group(c as u32, b), s);
+        return Some((join_group(c as u32, b), s));
     }
     read_groups(journal, end, 4)
 }

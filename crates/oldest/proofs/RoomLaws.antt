@@ -11,7 +11,7 @@ use Rattle.record.specs.Limits.{longest_record}
 use Rattle.oldest.specs.Room.{Row, row_bytes, rows_bytes, Way, rows, torn, rows_of, dropped, CutIs, RoomIs}
 use Rattle.oldest.specs.Room.{RoomCall, as_it_was, without, missing, with_rows, make_room}
 use Rattle.oldest.specs.declared.Cut.{Cut}
-use Rattle.oldest.specs.declared.Cut.TheVariants.{At, Torn}
+use Rattle.std.specs.Prelude.{Option, Some, None}
 use Rattle.oldest.proofs.RowLaws.{AllGood, rows_bytes_append, rows_weight, good_drop, bytes_of_rows, rows_after_room}
 
 -- ---- the fewest: so many records make need bytes free, and no smaller number of the oldest does
@@ -232,17 +232,17 @@ module _ (len : ℕ) (j : List ℕ) (mark : ℕ) where
   room_is c e = record { journal = sym (ap (λ (c : RoomCall). c.j) e); answer = sym (ap (λ (c : RoomCall). c.a) e) }
 
   module _ (short : length j - mark < longest_record) (long : longest_record ≤ length j) where
-    pub room_torn : (r : Cut) → CutIs len j mark (missing j mark) r → r ≡ Torn
+    pub room_torn : (r : Option Cut) → CutIs len j mark (missing j mark) r → r ≡ None
         → RoomIs len j mark j (record { number = 8; mark = mark; moved = 0; dropped = 0 })
     room_torn r w e = room_is (as_it_was 8 j mark) (room_when_torn len j mark short long (rw e at w))
 
-    pub room_made : mark ≤ length j → (r : Cut) → CutIs len j mark (missing j mark) r → (c n : ℕ) → r ≡ At c n
-        → RoomIs len j mark (written j 0 (slice c mark j)) (record { number = 0; mark = mark - c; moved = mark - c; dropped = n })
-    room_made inside r w c n e = from_cut (rw e at w)
+    pub room_made : mark ≤ length j → (r : Option Cut) → CutIs len j mark (missing j mark) r → (c : Cut) → r ≡ Some c
+        → RoomIs len j mark (written j 0 (slice c.from mark j)) (record { number = 0; mark = mark - c.from; moved = mark - c.from; dropped = c.dropped })
+    room_made inside r w c e = from_cut (rw e at w)
       where
-        from_cut : CutIs len j mark (missing j mark) (At c n)
-            → RoomIs len j mark (written j 0 (slice c mark j)) (record { number = 0; mark = mark - c; moved = mark - c; dropped = n })
+        from_cut : CutIs len j mark (missing j mark) (Some c)
+            → RoomIs len j mark (written j 0 (slice c.from mark j)) (record { number = 0; mark = mark - c.from; moved = mark - c.from; dropped = c.dropped })
         from_cut x =
-            let size : mark - c ≡ length (rows_bytes (drop n x.0)) = sym (length-slice c mark j inside) ∙ ap length x.4 in
+            let size : mark - c.from ≡ length (rows_bytes (drop c.dropped x.0)) = sym (length-slice c.from mark j inside) ∙ ap length x.4 in
             let is = room_is _ (room_when_rows len j mark short long x.0 x.1) in
             rw (size, x.4, x.2) is

@@ -1,13 +1,13 @@
 -- SumLaws.antt - a sum that is cut at each step is the whole sum, cut once.
 -- Speaks of: capped of specs/Room.antt.
 -- Assumes nothing.  Source: [K5].
-use Rattle.std.proofs.Common.{◌≡◌, ℕ, ◌+◌, ◌%◌, ◌^◌, ◌<◌, ◌≤◌, Bool, true, false, ltb, sym, refl, ap, ◌∙◌, arith, ltb-false, ltb-true, le-ltb, lt-ltb}
+use Rattle.std.proofs.Common.{◌≡◌, ℕ, ◌+◌, ◌<◌, ◌≤◌, Bool, true, false, ltb, sym, refl, ap, ◌∙◌, arith, ltb-false, ltb-true, le-ltb, lt-ltb}
 use Rattle.oldest.specs.Room.{largest_sum, capped}
 
-pub capped_when_over : (n : ℕ) → largest_sum < n → capped n ≡ largest_sum
+capped_when_over : (n : ℕ) → largest_sum < n → capped n ≡ largest_sum
 capped_when_over n h = rw (lt-ltb largest_sum n h)
 
-pub capped_when_in : (n : ℕ) → n ≤ largest_sum → capped n ≡ n
+capped_when_in : (n : ℕ) → n ≤ largest_sum → capped n ≡ n
 capped_when_in n h = rw (le-ltb largest_sum n h)
 
 capped_when_full : (m : ℕ) → capped (largest_sum + m) ≡ largest_sum
@@ -27,11 +27,3 @@ capped_sum a m = go (ltb largest_sum a) refl
         let over = ltb-true largest_sum a q in
         ap (λ (s : ℕ). capped (s + m)) (capped_when_over a over) ∙ capped_when_full m ∙ sym (capped_when_over (a + m) (omega arith))
     go false q = ap (λ (s : ℕ). capped (s + m)) (capped_when_in a (ltb-false largest_sum a q))
-
--- ---- by what is left of the sum in 64 bits
-module _ (s m t : ℕ) (hs : s < 2 ^ 64) (hm : m < 2 ^ 64) (e : t ≡ (s + m) % 2 ^ 64) where
-  pub sum_when_over : t < s → largest_sum ≡ capped (s + m)
-  sum_when_over h = sym (capped_when_over (s + m) (omega arith))
-
-  pub sum_when_in : s ≤ t → t ≡ capped (s + m)
-  sum_when_in h = let in_it : s + m ≤ largest_sum = omega arith in omega arith ∙ sym (capped_when_in (s + m) in_it)

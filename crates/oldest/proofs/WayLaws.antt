@@ -1,7 +1,7 @@
 -- WayLaws.antt - the way back from the mark to place 0, one law for each turn or return of the code.
 -- Speaks of: rows_of, dropped and CutIs of specs/Room.antt.
 -- Assumes nothing.  Source: [K5].
-use Rattle.std.proofs.Common.{◌≡◌, ℕ, zero, suc, ◌+◌, ◌-◌, ◌<◌, ◌≤◌, Bool, true, false, ltb, List, [], ◌∷◌, ◌++◌, length, get_or, take, drop, sym, refl, ap, ◌∙◌, add-one, arith, length-take-le, drop_at}
+use Rattle.std.proofs.Common.{◌≡◌, ℕ, zero, suc, ◌+◌, ◌-◌, ◌<◌, ◌≤◌, Bool, true, false, ltb, List, [], ◌∷◌, ◌++◌, length, get_or, take, drop, sym, refl, ap, ◌∙◌, add-one, arith, length-take-le, drop_at, le-ltb, lt-ltb}
 use mathlib.Core.List.{reverse-reverse}
 use lib.Seq.{slice, slice_empty, length-slice}
 use Rattle.bits.specs.Bits.{pick}
@@ -14,7 +14,7 @@ use Rattle.undo.proofs.ReadLaws.{length_back}
 use Rattle.undo.proofs.ShapeLaws.{journal_of_shaped_record}
 use Rattle.oldest.specs.Room.{Row, row_bytes, rows_bytes, Way, rows, torn, at_end, more_rows, read_rows, rows_of, dropped, CutIs}
 use Rattle.oldest.specs.declared.Cut.{Cut}
-use Rattle.oldest.specs.declared.Cut.TheVariants.{At, Torn}
+use Rattle.std.specs.Prelude.{Option, Some, None}
 use Rattle.oldest.proofs.MoveLaws.{slice_join}
 
 -- ---- a journal is bytes
@@ -94,7 +94,7 @@ seen_start len j mark need =
     }
 
 module _ (len : ℕ) (j : List ℕ) (mark need e from n : ℕ) (inside : mark ≤ length j) (some : 0 < e) (w : Seen len j mark need e from n) where
-  pub seen_torn : shaped_record len (back j e) ≡ none → CutIs len j mark need Torn
+  pub seen_torn : shaped_record len (back j e) ≡ none → CutIs len j mark need None
   seen_torn q = w.way ∙ way_torn (shaped_record len) j e some (omega (arith, w.few)) w.fuel w.rest w.enough q
 
   module _ (octets : (k : ℕ) → get_or j k 0 < 256) (ss bs : List Change) (s : ℕ) (less : s < e)
@@ -140,14 +140,14 @@ module _ (len : ℕ) (j : List ℕ) (mark need e from n : ℕ) (inside : mark �
           kept = joined;
         }
 
-    pub seen_next : Seen len j mark need s (pick (ltb s need) from s) (pick (ltb s need) (n + 1) 0)
-    seen_next = seen_by (ltb s need) refl
+    -- by whether the record that starts there goes
+    pub seen_goes : s < need → Seen len j mark need s from (n + 1)
+    seen_goes h = seen_by true (lt-ltb s need h)
 
-    -- by what the two functions answered
-    pub seen_turn : (f k : ℕ) → f ≡ pick (ltb s need) from s → k ≡ pick (ltb s need) (n + 1) 0 → Seen len j mark need s f k
-    seen_turn f k p q = rw (p, q) seen_next
+    pub seen_stays : need ≤ s → Seen len j mark need s s 0
+    seen_stays h = seen_by false (le-ltb s need h)
 
-pub seen_end : (len : ℕ) (j : List ℕ) (mark need e from n : ℕ) → Seen len j mark need e from n → e ≡ 0 → CutIs len j mark need (At from n)
+pub seen_end : (len : ℕ) (j : List ℕ) (mark need e from n : ℕ) → Seen len j mark need e from n → e ≡ 0 → CutIs len j mark need (Some (record { from = from; dropped = n }))
 seen_end len j mark need e from n w z = (
   w.rest,
   w.way ∙ way_end (shaped_record len) w.fuel j e w.rest z,
@@ -156,8 +156,8 @@ seen_end len j mark need e from n w z = (
   w.kept,
 )
 
-pub cut_low : (len : ℕ) (j : List ℕ) (mark need : ℕ) (r : Cut) → CutIs len j mark need r → (c n : ℕ) → r ≡ At c n → c ≤ mark
-cut_low len j mark need r w c n e = from_cut (rw e at w)
+pub cut_low : (len : ℕ) (j : List ℕ) (mark need : ℕ) (r : Option Cut) → CutIs len j mark need r → (c : Cut) → r ≡ Some c → c.from ≤ mark
+cut_low len j mark need r w c e = from_cut (rw e at w)
   where
-    from_cut : CutIs len j mark need (At c n) → c ≤ mark
+    from_cut : CutIs len j mark need (Some c) → c.from ≤ mark
     from_cut x = x.3

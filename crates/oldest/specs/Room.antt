@@ -1,7 +1,7 @@
 -- Room.antt - the records below the mark, read from it back to place 0; how many of the oldest go; the journal and the answer then.
 -- Met by: src/lib.rt.  Laws: proofs/WayLaws, RowLaws, RoomLaws, SumLaws.  Not here: the order of a call's refusals.
 -- Uses: undo, record, numbers, bits.  Source: [K5], [01 The journal].
-use Rattle.std.specs.Prelude.{◌≡◌, ℕ, zero, suc, ◌+◌, ◌-◌, ◌^◌, ◌≤◌, List, [], ◌∷◌, ◌++◌, length, drop, nat_le, nat_lt}
+use Rattle.std.specs.Prelude.{◌≡◌, ℕ, zero, suc, ◌+◌, ◌-◌, ◌^◌, ◌≤◌, Option, Some, None, List, [], ◌∷◌, ◌++◌, length, drop, nat_le, nat_lt}
 use Rattle.std.proofs.Math.Seq.{slice}
 use Rattle.bits.specs.Bits.{pick}
 use Rattle.numbers.specs.Number.{back, written}
@@ -9,7 +9,6 @@ use Rattle.record.specs.Limits.{longest_record}
 use Rattle.record.specs.Change.{Change, record_of}
 use Rattle.undo.specs.Undo.{Record, found, none, shaped_record}
 use Rattle.oldest.specs.declared.Cut.{Cut}
-use Rattle.oldest.specs.declared.Cut.TheVariants.{At, Torn}
 use Rattle.oldest.specs.declared.Room.{Room}
 
 -- ---- the records of a journal
@@ -106,15 +105,16 @@ capped n = pick (nat_lt largest_sum n) largest_sum n
 
 -- ---- what the code's answers say
 
--- The records below the mark were read; n of them go, and the others stand from place c up to the mark. Or one is not well shaped. [ours]
-abbrev pub CutIs : ℕ → List ℕ → ℕ → ℕ → Cut → Type 0
-CutIs len j mark need (At c n) =
+-- The records below the mark were read; so many go as c says, and the others stand from its place up to the mark. Or one is not well
+-- shaped. [ours]
+abbrev pub CutIs : ℕ → List ℕ → ℕ → ℕ → Option Cut → Type 0
+CutIs len j mark need (Some c) =
     (rs : List Row)
     × (rows_of len j mark ≡ rows rs)
-    × (n ≡ dropped need 0 rs)
-    × (c ≤ mark)
-    × (slice c mark j ≡ rows_bytes (drop n rs))
-CutIs len j mark need Torn = rows_of len j mark ≡ torn
+    × (c.dropped ≡ dropped need 0 rs)
+    × (c.from ≤ mark)
+    × (slice c.from mark j ≡ rows_bytes (drop c.dropped rs))
+CutIs len j mark need None = rows_of len j mark ≡ torn
 
 -- The journal afterwards and the answer. [K5]
 pub record RoomIs (len : ℕ) (j : List ℕ) (mark : ℕ) (j' : List ℕ) (a : Room) : Type 0 where

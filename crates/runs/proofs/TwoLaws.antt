@@ -1,7 +1,7 @@
 -- TwoLaws.antt - a record of form 2: what is put reads back, and what reads is what was put; so both forms hold the same.
 -- * two_reads, two_puts: of every well-shaped record.   * two_some: it is not empty.
 -- Speaks of: record_two and shaped_two of specs/Two.antt, Good of oldest.  Assumes nothing.  Source: [K8].
-use Prim.Native.Nat.{ℕ, suc, ◌+◌, ◌≤◌}
+use Prim.Native.Nat.{ℕ, suc, ◌≤◌}
 use mathlib.Core.Path.{◌≡◌, refl, sym, ap, ◌∙◌}
 use mathlib.Core.Bool.{true}
 use mathlib.Core.List.{List, [], ◌∷◌, ◌++◌, append_assoc, append-nil, reverse, reverse-append}

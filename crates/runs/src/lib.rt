@@ -6,24 +6,26 @@
 pub mod put;
 pub mod read;
 
-// Where a run starts in the journal, the entry of its first byte and its first address, or that it is none.
+// Where a run that was read starts in the journal, the entry of its first byte, and its first address.
 #[derive(Clone, Copy)]
-pub enum OneRun {
-    At(usize, usize, usize),
-    Broken,
+pub struct OneRun {
+    pub start: usize,
+    pub at: usize,
+    pub first: usize,
 }
 
-// Where runs start in the journal and the entry of their first byte, or that they are none.
+// Where runs that were read start in the journal, and the entry of their first byte.
 #[derive(Clone, Copy)]
-pub enum AllRuns {
-    From(usize, usize),
-    Broken,
+pub struct AllRuns {
+    pub start: usize,
+    pub at: usize,
 }
 
-// A record that was read into two logs: the count of its slots, its bytes' first entry and the one after the last, and where it starts; or
-// none.
+// A record that was read into two logs: the count of its slots, its bytes' first entry and the one after the last, and where it starts.
 #[derive(Clone, Copy)]
-pub enum Logged {
-    Record(usize, usize, usize, usize),
-    Nothing,
+pub struct Logged {
+    pub slots: usize,
+    pub from: usize,
+    pub to: usize,
+    pub start: usize,
 }

@@ -1,73 +1,55 @@
 // put.rt - the runs of a log's changes, written.
 // Means: specs/Runs.antt.  Laws: proofs/PutLaws.antt.
 // Uses: record, numbers.  Source: [K8].
-ghost use Rattle.std.specs.Prelude.{◌+◌, ◌/◌, ◌^◌, ◌≤◌, ◌<◌, length, get_or};
+ghost use Rattle.std.specs.Prelude.{◌≡◌, ◌+◌, ◌/◌, ◌^◌, ◌≤◌, ◌<◌, map, length, get_or};
 ghost use Rattle.record.specs.Limits.{byte_limit};
-ghost use Rattle.record.specs.Change.{between};
+ghost use Rattle.record.specs.Change.{unpack, between};
 ghost use Rattle.runs.specs.Runs.{numbers_bytes, runs, run_bytes, runs_bytes};
-ghost use Rattle.runs.specs.Answers.{olds, RunEnd, BytesPut, PartPut};
+ghost use Rattle.runs.specs.Answers.{olds, follows, BytesPut, PartPut};
 
 use numbers::put_number;
 use record::Put;
 
-// Writes the old values of a log's entries from i up to n.
-fn put_olds(out: &mut [u8], at: usize, log: &[u64], i: usize, n: usize) -> usize
-    requires { (i ≤ n) × (n ≤ length log.now) × (at + length (numbers_bytes (olds (between i n log.now))) ≤ length out.old) }
-    ensures { BytesPut out.old at (numbers_bytes (olds (between i n log.now))) out.new result }
+// Writes the old values of a log's entries.
+fn put_olds(out: &mut [u8], at: usize, log: &[u64]) -> usize
+    requires { at + length (numbers_bytes (olds (map unpack log.now))) ≤ length out.old }
+    ensures { BytesPut out.old at (numbers_bytes (olds (map unpack log.now))) out.new result }
 {
-    let mut k = i;
     let mut p = at;
-    while k < n {
-        let e = log[k];
-        p = put_number(out, p, (e % 4294967296) as u32);
-        k += 1;
+    for e in log {
+        p = put_number(out, p, (*e % 4294967296) as u32);
     }
     p
 }
 
-// The entry after the run that begins at entry i.
-fn run_end(log: &[u64], i: usize, n: usize) -> usize
-    requires { (i < n) × (n ≤ length log.now) }
-    ensures { RunEnd log.now i n result }
+// Writes the run of a log's entries.
+fn put_run(out: &mut [u8], at: usize, log: &[u64]) -> usize
+    requires { (0 < length log.now) × (length log.now ≤ byte_limit) × (at + length (run_bytes (record { first = get_or log.now 0 0 / 2 ^ 32; olds = olds (map unpack log.now) })) ≤ length out.old) }
+    ensures { BytesPut out.old at (run_bytes (record { first = get_or log.now 0 0 / 2 ^ 32; olds = olds (map unpack log.now) })) out.new result }
 {
-    let mut k = i + 1;
-    let mut last = log[i] / 4294967296;
-    while k < n {
-        let place = log[k] / 4294967296;
-        if place != last + 1 {
-            return k;
-        }
-        last = place;
-        k += 1;
-    }
-    k
-}
-
-// Writes the run of a log's entries from i up to n.
-fn put_run(out: &mut [u8], at: usize, log: &[u64], i: usize, n: usize) -> usize
-    requires { (i < n) × (n ≤ length log.now) × (n ≤ byte_limit) × (at + length (run_bytes (record { first = get_or log.now i 0 / 2 ^ 32; olds = olds (between i n log.now) })) ≤ length out.old) }
-    ensures { BytesPut out.old at (run_bytes (record { first = get_or log.now i 0 / 2 ^ 32; olds = olds (between i n log.now) })) out.new result }
-{
-    let e = log[i];
-    let first = (e / 4294967296) as u32;
-    let p = put_olds(out, at, log, i, n);
+    let first = (log[0] / 4294967296) as u32;
+    let p = put_olds(out, at, log);
     let q = put_number(out, p, first);
-    put_number(out, q, (n - i) as u32)
+    put_number(out, q, log.len() as u32)
 }
 
-// Writes the runs of a log's entries from i up to n.
+// Whether an entry stands at the address after another's.
+fn follows(a: &u64, b: &u64) -> bool
+    ensures { result ≡ follows a.now b.now }
+{
+    *b / 4294967296 == *a / 4294967296 + 1
+}
+
+// Writes the runs of a log's entries from i up to n. The part stays i and n beside the log: the public promise speaks of between i n.
 pub fn put_runs(out: &mut [u8], at: usize, log: &[u64], i: usize, n: usize) -> Put
     requires { (i ≤ n) × (n ≤ length log.now) × (n ≤ byte_limit) × (at + length (runs_bytes (runs (between i n log.now))) ≤ length out.old) }
     ensures { PartPut out.old at (runs_bytes (runs (between i n log.now))) (length (runs (between i n log.now))) out.new result }
 {
-    let mut k = i;
     let mut p = at;
     let mut count: u32 = 0;
-    while k < n {
-        let f = run_end(log, k, n);
-        p = put_run(out, p, log, k, f);
+    for run in log[i..n].chunk_by(follows) {
+        p = put_run(out, p, run);
         count += 1;
-        k = f;
     }
     Put { at: p, count }
 }

@@ -5,9 +5,8 @@ ghost use Rattle.std.specs.Prelude.{◌≡◌, ℕ, ◌≤◌, ◌<◌, length, 
 ghost use Rattle.record.specs.Limits.{slot_limit, byte_limit};
 ghost use Rattle.starts.specs.Starts.{no_post, post_place, IsEntry, NotedIs};
 
-use oldest::octets;
 use record::limits::{BYTE_LIMIT, SLOT_LIMIT};
-use undo::{Last, shaped_record};
+use undo::shaped_record;
 
 // What an entry holds at which nothing is noted: no journal has this place.
 pub const NO_POST: usize = 18446744073709551615;
@@ -56,14 +55,13 @@ fn note_all(
     requires spread_nonzero { (0 < spread) × (0 < length posts.old) × ((k : ℕ) → k < length posts.old → get_or posts.old k 0 ≡ no_post) }
     ensures { NotedIs len journal.now mark posts.new result }
 {
-    let size = octets(journal);
     let mut e = mark;
     while 0 < e {
-        let Last::Found(_, _, s) = shaped_record(journal, e, len, slots, bytes) else {
+        let Some(last) = shaped_record(journal, e, len, slots, bytes) else {
             return false;
         };
-        note_post(posts, spread, s);
-        e = s;
+        note_post(posts, spread, last.start);
+        e = last.start;
     }
     true
 }

@@ -3,92 +3,76 @@
 // Uses: record, numbers, bits.  Source: [01 The journal].
 #![tactic(auto)]
 
-ghost use Rattle.std.specs.Prelude.{◌≡◌, ◌≤◌, ◌<◌, length};
+ghost use Rattle.std.specs.Prelude.{◌≡◌, ℕ, ◌%◌, ◌^◌, ◌≤◌, ◌<◌, map, length, slice_index};
 ghost use Rattle.numbers.specs.Number.{back};
 ghost use Rattle.record.specs.Limits.{slot_limit, byte_limit};
 ghost use Rattle.record.specs.Change.{Ascending, ByteOlds, changes, restore};
 ghost use Rattle.undo.specs.Undo.{RunIs, RecordIs, read_record, shaped_record, all_valid, valid_for, differs, undo_of};
 
-use numbers::{Reading, read_number};
+use numbers::read_number;
 use record::limits::{BYTE_LIMIT, SLOT_LIMIT, valid_value};
-
-// Where a run of changes starts, or that it is none.
-#[derive(Clone, Copy)]
-pub enum Run {
-    From(usize),
-    Broken,
-}
 
 // The counts of slots and bytes of a record, and where it starts.
 #[derive(Clone, Copy)]
-pub enum Last {
-    Found(usize, usize, usize),
-    Nothing,
+pub struct Last {
+    pub slots: usize,
+    pub bytes: usize,
+    pub start: usize,
 }
 
-// The new mark, or a refusal.
-#[derive(Clone, Copy)]
-pub enum Answer {
-    Done(usize),
-    Refused,
-}
-
-// Reads n changes back from place end into the first n entries of out, each place below the one after it and the last below limit.
-pub fn read_changes(journal: &[u8], end: usize, n: usize, limit: usize, out: &mut [u64]) -> Run
+// Reads n changes back from place end into the first n entries of out, each place below the one after it and the last below limit: where
+// they start, if there are such.
+pub fn read_changes(
+    journal: &[u8],
+    end: usize,
+    n: usize,
+    limit: usize,
+    out: &mut [u64],
+) -> Option<usize>
     requires { (end ≤ length journal.now) × (n ≤ length out.old) }
     ensures { RunIs journal.now end n limit out.new result }
 {
-    let mut k = n;
     let mut e = end;
     let mut lim = limit;
-    while 0 < k {
-        let Reading::Number(old, e1) = read_number(journal, e) else {
-            return Run::Broken;
-        };
-        let Reading::Number(place, e2) = read_number(journal, e1) else {
-            return Run::Broken;
-        };
+    for k in (0..n).rev() {
+        let (old, e1) = read_number(journal, e)?;
+        let (place, e2) = read_number(journal, e1)?;
         if lim <= (place as usize) {
-            return Run::Broken;
+            return None;
         }
-        k -= 1;
         out[k] = (place as u64) * 4294967296 + (old as u64);
         lim = place as usize;
         e = e2;
     }
-    Run::From(e)
+    Some(e)
 }
 
-// Reads the record that ends at the mark: its slots' changes into slots, its bytes' into bytes.
+// Reads the record that ends at the mark, if there is one: its slots' changes into slots, its bytes' into bytes.
 fn read_record(
     journal: &[u8],
     mark: usize,
     len: usize,
     slots: &mut [u64],
     bytes: &mut [u64],
-) -> Last
+) -> Option<Last>
     requires { (mark ≤ length journal.now) × (slot_limit ≤ length slots.old) × (byte_limit ≤ length bytes.old) }
     ensures { RecordIs (read_record len (back journal.now mark)) len journal.now mark slots.new bytes.new result }
 {
-    let Reading::Number(nb, e1) = read_number(journal, mark) else {
-        return Last::Nothing;
-    };
+    let (nb, e1) = read_number(journal, mark)?;
     if BYTE_LIMIT < (nb as usize) {
-        return Last::Nothing;
+        return None;
     }
-    let Reading::Number(ns, e2) = read_number(journal, e1) else {
-        return Last::Nothing;
-    };
+    let (ns, e2) = read_number(journal, e1)?;
     if SLOT_LIMIT < (ns as usize) {
-        return Last::Nothing;
+        return None;
     }
-    let Run::From(e3) = read_changes(journal, e2, nb as usize, len, bytes) else {
-        return Last::Nothing;
-    };
-    let Run::From(e4) = read_changes(journal, e3, ns as usize, SLOT_LIMIT, slots) else {
-        return Last::Nothing;
-    };
-    Last::Found(ns as usize, nb as usize, e4)
+    let e3 = read_changes(journal, e2, nb as usize, len, bytes)?;
+    let start = read_changes(journal, e3, ns as usize, SLOT_LIMIT, slots)?;
+    Some(Last {
+        slots: ns as usize,
+        bytes: nb as usize,
+        start,
+    })
 }
 
 // Whether a place of memory, or else a slot, can hold v.
@@ -106,14 +90,10 @@ pub fn all_valid(bytes: bool, log: &[u64], n: usize) -> bool
     requires { n ≤ length log.now }
     ensures { result ≡ all_valid (valid_for bytes) (changes log.now n) }
 {
-    let mut i = 0;
-    while i < n {
-        let e = log[i];
-        let valid = valid_for(bytes, (e / 4294967296) as u32, (e % 4294967296) as u32);
-        if !valid {
+    for &e in &log[..n] {
+        if !valid_for(bytes, (e / 4294967296) as u32, (e % 4294967296) as u32) {
             return false;
         }
-        i += 1;
     }
     true
 }
@@ -125,67 +105,38 @@ pub fn shaped_record(
     len: usize,
     slots: &mut [u64],
     bytes: &mut [u64],
-) -> Last
+) -> Option<Last>
     requires { (mark ≤ length journal.now) × (slot_limit ≤ length slots.old) × (byte_limit ≤ length bytes.old) }
     ensures { RecordIs (shaped_record len (back journal.now mark)) len journal.now mark slots.new bytes.new result }
 {
-    let Last::Found(ns, nb, start) = read_record(journal, mark, len, slots, bytes) else {
-        return Last::Nothing;
-    };
-    if !all_valid(false, slots, ns) {
-        return Last::Nothing;
+    let last = read_record(journal, mark, len, slots, bytes)?;
+    if !all_valid(false, slots, last.slots) || !all_valid(true, bytes, last.bytes) {
+        return None;
     }
-    if !all_valid(true, bytes, nb) {
-        return Last::Nothing;
-    }
-    Last::Found(ns, nb, start)
+    Some(last)
 }
 
-// Whether no old value of a log is the one that its slot holds.
-fn slots_differ(slots: &[u32], log: &[u64], n: usize) -> bool
-    requires { (n ≤ length log.now) × Ascending 0 (length slots.now) (changes log.now n) }
-    ensures { result ≡ differs slots.now (changes log.now n) }
+// Whether no old value of a log is the one that its place, a slot or a byte of memory, holds.
+fn differ<T: Copy + Into<u64>>(held: &[T], log: &[u64], n: usize) -> bool
+    requires { (n ≤ length log.now) × Ascending 0 (length held.now) (changes log.now n) }
+    ensures { (value : T → ℕ) → ((x : T) (y : ℕ) → T.converts x y → y ≡ value x) → result ≡ differs (map value held.now) (changes log.now n) }
 {
-    let mut i = 0;
-    while i < n {
-        let e = log[i];
-        let a = (e / 4294967296) as usize;
-        if e % 4294967296 == (slots[a] as u64) {
+    for &e in &log[..n] {
+        if e % 4294967296 == held[(e / 4294967296) as usize].into() {
             return false;
         }
-        i += 1;
     }
     true
 }
 
-// Whether no old value of a log is the byte that memory holds.
-fn bytes_differ(memory: &[u8], log: &[u64], n: usize) -> bool
-    requires { (n ≤ length log.now) × Ascending 0 (length memory.now) (changes log.now n) }
-    ensures { result ≡ differs memory.now (changes log.now n) }
+// Puts a log's old values back, each as of makes it of an entry.
+fn restore<T: Copy, F: Fn(u64) -> T>(held: &mut [T], log: &[u64], n: usize, of: F)
+    requires callable { F.IsAlwaysCallable of }
+    requires places { (n ≤ length log.now) × Ascending 0 (length held.old) (changes log.now n) }
+    ensures { (value : T → ℕ) → ((i : ℕ) (x : T) → i < n → F.post of (slice_index log.now i) x → value x ≡ slice_index log.now i % 2 ^ 32) → map value held.new ≡ restore (changes log.now n) (map value held.old) }
 {
-    let mut i = 0;
-    while i < n {
-        let e = log[i];
-        let a = (e / 4294967296) as usize;
-        if e % 4294967296 == (memory[a] as u64) {
-            return false;
-        }
-        i += 1;
-    }
-    true
-}
-
-// Puts a log's old values back into slots.
-fn restore_slots(slots: &mut [u32], log: &[u64], n: usize)
-    requires { (n ≤ length log.now) × Ascending 0 (length slots.old) (changes log.now n) }
-    ensures { slots.new ≡ restore (changes log.now n) slots.old }
-{
-    let mut i = 0;
-    while i < n {
-        let e = log[i];
-        let a = (e / 4294967296) as usize;
-        slots[a] = (e % 4294967296) as u32;
-        i += 1;
+    for &e in &log[..n] {
+        held[(e / 4294967296) as usize] = of(e);
     }
 }
 
@@ -194,35 +145,28 @@ pub fn restore_bytes(memory: &mut [u8], log: &[u64], n: usize)
     requires { (n ≤ length log.now) × Ascending 0 (length memory.old) (changes log.now n) × ByteOlds (changes log.now n) }
     ensures { memory.new ≡ restore (changes log.now n) memory.old }
 {
-    let mut i = 0;
-    while i < n {
-        let e = log[i];
-        let a = (e / 4294967296) as usize;
-        memory[a] = (e % 4294967296 % 256) as u8;
-        i += 1;
-    }
+    restore(memory, log, n, |e| (e % 256) as u8);
 }
 
-// Puts back what the last record says, where it is well formed.
-pub fn undo(slots: &mut [u32; SLOT_LIMIT], memory: &mut [u8], journal: &[u8], mark: usize) -> Answer
+// Puts back what the last record says, where it is well formed: the new mark, or none where it is refused.
+pub fn undo(
+    slots: &mut [u32; SLOT_LIMIT],
+    memory: &mut [u8],
+    journal: &[u8],
+    mark: usize,
+) -> Option<usize>
     ensures { undo_of slots.old memory.old journal.now mark ≡ record { slots = slots.new; memory = memory.new; answer = result } }
 {
     if journal.len() < mark {
-        return Answer::Refused;
+        return None;
     }
     let mut s = [0u64; SLOT_LIMIT];
     let mut b = [0u64; BYTE_LIMIT];
-    let Last::Found(ns, nb, start) = shaped_record(journal, mark, memory.len(), &mut s, &mut b)
-    else {
-        return Answer::Refused;
-    };
-    if !slots_differ(slots, &s, ns) {
-        return Answer::Refused;
+    let last = shaped_record(journal, mark, memory.len(), &mut s, &mut b)?;
+    if !differ(slots, &s, last.slots) || !differ(memory, &b, last.bytes) {
+        return None;
     }
-    if !bytes_differ(memory, &b, nb) {
-        return Answer::Refused;
-    }
-    restore_slots(slots, &s, ns);
-    restore_bytes(memory, &b, nb);
-    Answer::Done(start)
+    restore(slots, &s, last.slots, |e| (e % 4294967296) as u32);
+    restore_bytes(memory, &b, last.bytes);
+    Some(last.start)
 }
