@@ -1,6 +1,6 @@
 // main.rt - what so many steps of an image give; or, to measure with, the steps alone.
 // Means: nothing; proved safe.
-// Uses: codes, machine, console.  Source: [ours].
+// Uses: console, asking, running.  Source: [ours].
 //
 // Arguments, in any number: a count of steps tells what that many steps from a reset give; `speed COUNT` only runs
 // them, and `undo COUNT` runs each, undoes it and runs it again: both tell clocks and slots alone. In all three every

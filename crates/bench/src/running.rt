@@ -132,20 +132,15 @@ impl Lent {
 
     // Undoes all that the journal holds below the mark. Each record has a byte or more, so that there are no more undos than bytes.
     fn undo_all(&mut self, mark: usize) {
+        let slots = &mut self.slots;
+        let win = self.win;
+        let memory = self.memory.as_mut_slice();
+        let rom = self.rom.as_slice();
+        let journal = self.journal.as_slice();
         let mut at = mark;
         for _ in 0..mark {
-            if at == 0 {
-                return;
-            }
-            let a = machine::undo(
-                &mut self.slots,
-                self.win,
-                self.memory.as_mut_slice(),
-                self.rom.as_slice(),
-                self.journal.as_slice(),
-                at,
-            );
-            if a.number != 0 {
+            let a = machine::undo(slots, win, memory, rom, journal, at);
+            if a.number != 0 || a.mark == 0 {
                 return;
             }
             at = a.mark;

@@ -81,7 +81,8 @@ pub fn tell(rt: &impl Print, form: Form, file: &[u8], records: u64) -> io::Resul
         Counted(records, "record")
     )?;
     rt.println(
-        "a line says what the registers and the memory that its step changed held before it, in base 16; bytes stand after the address of the first of them",
+        "a line says what the registers and the memory that its step changed held before it, in base 16; \
+        bytes stand after the address of the first of them",
     )?;
     let mut step = records;
     let mut back = Back::new(form, file);

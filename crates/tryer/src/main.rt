@@ -1,6 +1,6 @@
 // main.rt - what a moderator runs on a stranger's pattern: it is tried in its window, what it did is told, and all is taken back.
 // Means: nothing; proved safe. What a try and taking it back are stands in specs/Tries.antt of the crate tries.
-// Uses: codes, bus, calls, machine, tries, compare, console.  Source: [K7], [K10].
+// Uses: codes, bus, machine, tries, compare, console.  Source: [K7], [K10].
 //
 //     ./run tryer LO HI STEPS PC STACK ROM < IMAGE
 //
