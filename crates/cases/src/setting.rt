@@ -40,7 +40,7 @@ pub fn put_all<'a>(spelled: &[u8], buffer: &'a mut [u8]) -> Option<&'a mut [u8]>
 }
 
 // Puts every run of a list that has one or more.
-pub fn put_each(runs: &[u8], to: &mut [u8], first: u32) -> Option<()> {
+pub(crate) fn put_each(runs: &[u8], to: &mut [u8], first: u32) -> Option<()> {
     for run in runs.split(|b| *b == b',') {
         put_run(run, to, first)?;
     }

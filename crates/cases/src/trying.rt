@@ -154,7 +154,7 @@ fn compare_both(
 }
 
 // What a case shows, on a part of two memories and of a ROM, whatever they hold; it is skipped where one has too little room.
-pub fn try_case(
+pub fn try_on(
     case: &Case<'_>,
     memory: &mut [u8],
     wanted: &mut [u8],

@@ -9,7 +9,7 @@ use cases::suite;
 use cases::suite::Suite;
 use cases::tally::Finding;
 use cases::text::field;
-use cases::trying::try_case;
+use cases::trying::try_on;
 use compare::verdicts::Difference;
 use std::alloc::Global;
 use std::io;
@@ -39,7 +39,7 @@ impl Suite for Vectors {
         let mut memory = vec![in self.alloc; 0u8; case.memory_length]?;
         let mut wanted = vec![in self.alloc; 0u8; case.memory_length]?;
         let mut rom = vec![in self.alloc; 0u8; case.rom_length()]?;
-        Ok(try_case(&case, &mut memory, &mut wanted, &mut rom))
+        Ok(try_on(&case, &mut memory, &mut wanted, &mut rom))
     }
 
     fn write_name<P: Print>(&self, rt: &P, line: Line<'_>) -> io::Result<()> {
