@@ -8,7 +8,7 @@ use mathlib.Core.Bool.{Bool, true, false, ◌&&◌, ◌||◌, not}
 use mathlib.Core.List.{List}
 use lib.ListN.{length}
 use lib.Dec.{leb, eqb}
-use borrow.Author.Tests.{leb-true, le-leb, lt-leb, ne_eqb, not-true, not-false}
+use borrow.Author.Tests.{leb-true, leb-false, le-leb, lt-leb, ne_eqb, eqb-true, eqb-false, eq-eqb, not-true, not-false}
 use denote.Ref.{Bor}
 use Rattle.std.specs.Prelude.{Result, Ok, Err}
 use Rattle.std.specs.Result.{IsErrAnd}
@@ -34,9 +34,9 @@ module _ (m rom r : Bor (List ℕ)) (a l : ℕ) where
 
 -- k: the judgment of the lengths
 module _ {A : Type 0} (m rom : Bor (List ℕ)) (a l : ℕ) (k : Result A Refusal) (e : number_given k ≡ reset_number m.now rom.now) where
-  pub part_refused : (x : Refusal) (y : Result (Bor (List ℕ)) Refusal) → k ≡ Err x → IsErrAnd y (λ z. z ≡ x) → Found (where_is m.now rom.now a l) m rom l y
+  pub found_refused : (x : Refusal) (y : Result (Bor (List ℕ)) Refusal) → k ≡ Err x → IsErrAnd y (λ z. z ≡ x) → Found (where_is m.now rom.now a l) m rom l y
   unfolding where_is
-  part_refused x y z t =
+  found_refused x y z t =
       let p = err_from_is_err_and y t in
       let n : refusal_number x ≡ reset_number m.now rom.now = ap number_given (sym z) ∙ e in
       let f : eqb (reset_number m.now rom.now) 0 ≡ false = ap (λ (i : ℕ). eqb i 0) (sym n) ∙ ne_eqb (refusal_number x) 0 (refusal_some x) in
@@ -50,22 +50,50 @@ module _ (m rom : Bor (List ℕ)) (a l : ℕ) (z : 0 ≡ reset_number m.now rom.
   zero : eqb (reset_number m.now rom.now) 0 ≡ true
   zero = ap (λ (i : ℕ). eqb i 0) (sym z)
 
-  pub part_in_memory : (r : Bor (List ℕ)) → true ≡ lies (length m.now) a l → PartOf m a l r → Found (where_is m.now rom.now a l) m rom l (Ok r)
+  pub found_in_memory : (r : Bor (List ℕ)) → true ≡ lies (length m.now) a l → PartOf m a l r → Found (where_is m.now rom.now a l) m rom l (Ok r)
   unfolding where_is
-  part_in_memory r i h = found (in_memory a) r refl (rw (zero, sym i)) h
+  found_in_memory r i h = found (in_memory a) r refl (rw (zero, sym i)) h
 
   module _ (i : false ≡ lies (length m.now) a l) where
-    pub part_in_rom : (r : Bor (List ℕ)) → RomStart ≤ a → true ≡ lies (length rom.now) (a - RomStart) l → PartOf rom (a - RomStart) l r → Found (where_is m.now rom.now a l) m rom l (Ok r)
+    pub found_in_rom : (r : Bor (List ℕ)) → RomStart ≤ a → true ≡ lies (length rom.now) (a - RomStart) l → PartOf rom (a - RomStart) l r → Found (where_is m.now rom.now a l) m rom l (Ok r)
     unfolding where_is
-    part_in_rom r s c h = found (in_rom (a - RomStart)) r refl (rw (zero, sym i, le-leb RomStart a s, sym c)) h
+    found_in_rom r s c h = found (in_rom (a - RomStart)) r refl (rw (zero, sym i, le-leb RomStart a s, sym c)) h
 
-    pub part_beyond : RomStart ≤ a → false ≡ lies (length rom.now) (a - RomStart) l → where_is m.now rom.now a l ≡ refused 13
+    pub where_beyond : RomStart ≤ a → false ≡ lies (length rom.now) (a - RomStart) l → where_is m.now rom.now a l ≡ refused 13
     unfolding where_is
-    part_beyond s c = rw (zero, sym i, le-leb RomStart a s, sym c)
+    where_beyond s c = rw (zero, sym i, le-leb RomStart a s, sym c)
 
-    pub part_below : a < RomStart → where_is m.now rom.now a l ≡ refused 13
+    pub where_below : a < RomStart → where_is m.now rom.now a l ≡ refused 13
     unfolding where_is
-    part_below s = rw (zero, sym i, lt-leb RomStart a s)
+    where_below s = rw (zero, sym i, lt-leb RomStart a s)
+
+-- ---- the same of the number x that the lengths are refused by, as the promise of a part
+module _ (m rom r : Bor (List ℕ)) (a l x : ℕ) (xe : x ≡ reset_number m.now rom.now) where
+  placed : (n : ℕ) (w : Where) → n ≡ number_of w → w ≡ where_is m.now rom.now a l → Placed w m rom l r → PartPromise m rom a l n r
+  placed n w d e h = record { number_is = d ∙ ap number_of e; part_is = subst (λ (w : Where). Placed w m rom l r) e h }
+
+  pub part_refused : not (eqb x 0) ≡ true → PartOf m 0 0 r → PartPromise m rom a l x r
+  unfolding where_is
+  part_refused t h = placed x (refused x) refl (let g = not-true (eqb x 0) t in cc) h
+
+  module _ (t : not (eqb x 0) ≡ false) (i : Bool) (ie : i ≡ lies (length m.now) a l) where
+    pub part_in_memory : i ≡ true → PartOf m a l r → PartPromise m rom a l 0 r
+    unfolding where_is
+    part_in_memory k h = placed 0 (in_memory a) refl (let g = not-false (eqb x 0) t in cc) h
+
+    module _ (k : i ≡ false) where
+      pub part_in_rom : (c : Bool) → leb RomStart a ≡ true → c ≡ lies (length rom.now) (a - RomStart) l → c ≡ true → PartOf rom (a - RomStart) l r
+          → PartPromise m rom a l 0 r
+      unfolding where_is
+      part_in_rom c s e d h = placed 0 (in_rom (a - RomStart)) refl (let g = not-false (eqb x 0) t in cc) h
+
+      pub part_beyond : (c : Bool) → leb RomStart a ≡ true → c ≡ lies (length rom.now) (a - RomStart) l → c ≡ false → PartOf m 0 0 r → PartPromise m rom a l 13 r
+      unfolding where_is
+      part_beyond c s e d h = placed 13 (refused 13) refl (let g = not-false (eqb x 0) t in cc) h
+
+      pub part_below : leb RomStart a ≡ false → PartOf m 0 0 r → PartPromise m rom a l 13 r
+      unfolding where_is
+      part_below s h = placed 13 (refused 13) refl (let g = not-false (eqb x 0) t in cc) h
 
 -- ---- any two answers that the promise allows are equal: the number, where the part points, and what it shows
 same_part : (s r t : Bor (List ℕ)) (a l : ℕ) → PartOf s a l r → PartOf s a l t → SamePart r t
