@@ -15,6 +15,7 @@ pub enum Word {
 }
 
 // What an argument asks.
+#[derive(Clone, Copy)]
 pub enum Asked<'a> {
     Image(&'a [u8]),
     Memory(usize),

@@ -66,9 +66,10 @@ pub fn read_at_most<R: AllocGlobal>(
 ) -> io::Result<Option<Vec<u8>>>
     ensures { IfOk result (λ read. IfSome read (λ bytes. vec_len bytes ≤ most)) }
 {
-    let mut bytes = Vec::new(rt.alloc());
-    let limit = (most as u64).saturating_add(1);
-    input.by_ref().take(limit).read_to_end(&mut bytes)?;
+    // All the room at once: room that grows is doubled, and would end a third above the longest input of post.
+    let limit = most.saturating_add(1);
+    let mut bytes = Vec::with_capacity(rt.alloc(), limit)?;
+    input.by_ref().take(limit as u64).read_to_end(&mut bytes)?;
     if bytes.len() <= most {
         Ok(Some(bytes))
     } else {
@@ -77,6 +78,23 @@ pub fn read_at_most<R: AllocGlobal>(
 }
 
 // ---- arguments
+
+// Puts argument i at the start of text, and answers its length: 0 where it is missing or longer than text.
+pub fn argument(rt: &impl Env, i: usize, text: &mut [u8]) -> usize
+    ensures { result ≤ length text.new }
+{
+    rt.arg(i, text).unwrap_or(0)
+}
+
+// How many arguments there are, with the program's name.
+pub fn argument_count(rt: &impl Env) -> usize {
+    for i in 0..usize::MAX {
+        if let Err(FillError::NotPresent) = rt.arg(i, &mut []) {
+            return i;
+        }
+    }
+    usize::MAX
+}
 
 // An argument that is longer counts as empty.
 const LONGEST: usize = 4096;
@@ -87,12 +105,8 @@ pub fn arguments<R: Env + AllocGlobal>(rt: &R) -> io::Result<Vec<Vec<u8>>>
 {
     let mut all = Vec::new(rt.alloc());
     let mut text = [0u8; LONGEST];
-    for i in 1..usize::MAX {
-        let n = match rt.arg(i, &mut text) {
-            Ok(n) => n,
-            Err(FillError::TooLong) => 0,
-            Err(FillError::NotPresent) => break,
-        };
+    for i in 1..argument_count(rt) {
+        let n = argument(rt, i, &mut text);
         all.push(Vec::from_slice(rt.alloc(), &text[..n])?)?;
     }
     Ok(all)
