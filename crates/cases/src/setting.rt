@@ -55,6 +55,19 @@ pub fn put_runs(runs: &[u8], to: &mut [u8]) -> Option<()> {
     put_each(runs, to, 0)
 }
 
+// Clears the bytes that each run of a list names; a hyphen is none.
+pub(crate) fn clear_runs(runs: &[u8], to: &mut [u8]) -> Option<()> {
+    if is_hyphen(runs) {
+        return Some(());
+    }
+    for run in runs.split(|b| *b == b',') {
+        let (place, bytes) = halves(run, b':')?;
+        let at = number(place)? as usize;
+        to.get_mut(at..at.checked_add(bytes.len() / 2)?)?.fill(0);
+    }
+    Some(())
+}
+
 // Puts the values of a list of all slots.
 pub fn put_slots(list: &[u8], slots: &mut [u32; SLOTS]) -> Option<()> {
     if marks(list, b',') != SLOTS - 1 {

@@ -4,7 +4,7 @@
 ghost use Rattle.std.specs.Prelude.{◌≡◌, OnOk};
 
 use crate::fields::{Case, Lists};
-use crate::setting::{change_slots, fill, put_bytes, put_runs, put_slots};
+use crate::setting::{change_slots, clear_runs, fill, put_bytes, put_runs, put_slots};
 use crate::tally::Finding;
 use crate::text::number;
 use codes::SLOTS;
@@ -145,7 +145,7 @@ fn compare_both(
         &mut journal,
         &record,
     )?;
-    wanted.fill(0);
+    clear_runs(case.after.runs, wanted).ok_or(Difference::NoCase)?;
     put_before(case, &mut goal, wanted)?;
     if let Some(undone) = case.undone {
         change(undone.lists, &mut goal, wanted)?;

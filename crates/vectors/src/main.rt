@@ -11,17 +11,29 @@ use cases::tally::Finding;
 use cases::text::field;
 use cases::trying::try_on;
 use compare::verdicts::Difference;
-use std::alloc::Global;
+use std::alloc::AllocError;
 use std::io;
 
 // bytes of a small memory. The memories are on the heap, but what was refused where the stack is small still is: whoever counts what is
 // skipped counts the same.
 const SMALL: usize = 65536;
 
+// Whether the stack is large, and room for the longest memories and ROM of the lines so far: new room for each line would cost more than
+// its step.
 #[derive(Drop)]
 struct Vectors {
-    alloc: Global,
     large: bool,
+    memory: Vec<u8>,
+    wanted: Vec<u8>,
+    rom: Vec<u8>,
+}
+
+// Lengthens a buffer that has fewer than n bytes.
+fn lengthen(buffer: &mut Vec<u8>, n: usize) -> Result<(), AllocError> {
+    if buffer.len() < n {
+        buffer.resize(n, 0)?;
+    }
+    Ok(())
 }
 
 impl Suite for Vectors {
@@ -36,10 +48,10 @@ impl Suite for Vectors {
         if SMALL < case.memory_length && !self.large {
             return Ok(Finding::Skipped);
         }
-        let mut memory = vec![in self.alloc; 0u8; case.memory_length]?;
-        let mut wanted = vec![in self.alloc; 0u8; case.memory_length]?;
-        let mut rom = vec![in self.alloc; 0u8; case.rom_length()]?;
-        Ok(try_on(&case, &mut memory, &mut wanted, &mut rom))
+        lengthen(&mut self.memory, case.memory_length)?;
+        lengthen(&mut self.wanted, case.memory_length)?;
+        lengthen(&mut self.rom, case.rom_length())?;
+        Ok(try_on(&case, &mut self.memory, &mut self.wanted, &mut self.rom))
     }
 
     fn write_name<P: Print>(&self, rt: &P, line: Line<'_>) -> io::Result<()> {
@@ -50,8 +62,10 @@ impl Suite for Vectors {
 
 fn main(rt: HostRuntime) -> io::Result<()> {
     let mut vectors = Vectors {
-        alloc: rt.alloc(),
         large: stack_limit::is_large(&rt),
+        memory: Vec::new(rt.alloc()),
+        wanted: Vec::new(rt.alloc()),
+        rom: Vec::new(rt.alloc()),
     };
     let tally = suite::try_all(&rt, &mut vectors)?;
     if 0 < tally.skipped {
