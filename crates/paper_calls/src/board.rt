@@ -100,8 +100,8 @@ trait Left: Copy {
 
     fn is_same(&self, paper: &Self) -> bool;
 
-    // With the lowest bit of place i altered.
-    fn altered(self, i: usize) -> Self;
+    // Alters the lowest bit of place i; done again, that leaves it as it was.
+    fn alter(&mut self, i: usize);
 }
 
 impl Left for [u32; SLOTS] {
@@ -111,12 +111,10 @@ impl Left for [u32; SLOTS] {
         same_slots(self, paper)
     }
 
-    fn altered(self, i: usize) -> [u32; SLOTS] {
-        let mut wrong = self;
-        if let Some(slot) = wrong.get_mut(i) {
+    fn alter(&mut self, i: usize) {
+        if let Some(slot) = self.get_mut(i) {
             *slot ^= 1;
         }
-        wrong
     }
 }
 
@@ -127,12 +125,10 @@ impl<const N: usize> Left for [u8; N] {
         same(self, paper)
     }
 
-    fn altered(self, i: usize) -> [u8; N] {
-        let mut wrong = self;
-        if let Some(byte) = wrong.get_mut(i) {
+    fn alter(&mut self, i: usize) {
+        if let Some(byte) = self.get_mut(i) {
             *byte ^= 1;
         }
-        wrong
     }
 }
 
@@ -143,9 +139,13 @@ fn tell<T: Left>(rt: &impl Print, what: &str, left: &T, paper: T) -> io::Result<
     } else {
         "other than"
     };
-    let differ = (0..T::PLACES)
-        .filter(|i| !left.is_same(&paper.altered(*i)))
-        .count();
+    let mut wrong = paper;
+    let mut differ = 0u64;
+    for i in 0..T::PLACES {
+        wrong.alter(i);
+        differ = differ.saturating_add(u64::from(!left.is_same(&wrong)));
+        wrong.alter(i);
+    }
     println!(rt; "{what} {said} the papers say, altered ones that differ {differ}")
 }
 
