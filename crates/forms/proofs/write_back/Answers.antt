@@ -1,5 +1,5 @@
--- Answers.antt - write_back: no record written yet; one more before those that were; and all.
-use Rattle.std.proofs.Common.{◌≡◌, ◌+◌, ◌-◌, ◌≤◌, ◌∷◌, [], ap, sym, ◌∙◌, length, add-zero, arith, length-append}
+-- Answers.antt - write_back: none to write; no record written yet; one more before those that were; and all.
+use Rattle.std.proofs.Common.{◌≡◌, ◌+◌, ◌-◌, ◌≤◌, ◌∷◌, [], ap, sym, ◌∙◌, length, add-zero, eqb-true, arith, length-append}
 use Rattle.std.proofs.Math.Seq.{length-take-le}
 use Rattle.numbers.specs.Number.{written}
 use Rattle.numbers.proofs.WrittenLaws.{written_none}
@@ -7,6 +7,12 @@ use Rattle.forms.specs.Forms.{other, record_in, journal_in}
 use Rattle.forms.proofs.ConvertLaws.{passed_start, passed_more, passed_end, passed_all, room_below, copied_in, copied, written_all}
 use Rattle.forms.proofs.write_back.Goals as goal
 use Rattle.forms.proofs.write_back.Goals.{In-Some}
+
+pub returns-then-is_empty : goal.returns-then-is_empty
+returns-then-is_empty c =
+    let none : length c.args.journal.now ≡ 0 = eqb-true (length c.args.journal.now) 0 (sym c.is_empty.ensures ∙ c.if-is_empty.true) in
+    let end = passed_end _ _ _ _ none (passed_start c.args.form c.args.journal.now) in
+    written_all _ _ _ _ _ [] c.args.total c.requires.1 end (omega (arith, c.requires.2, c.requires.3)) (add-zero c.args.total ∙ c.requires.2) (sym (written_none c.args.target.now c.args.total))
 
 pub loop-r-init : goal.loop-r-init
 loop-r-init c = ([], passed_start c.args.form c.args.journal.now, add-zero c.args.total, sym (written_none c.args.target.now c.args.total))
