@@ -143,13 +143,14 @@ fn try_image(
     let mut slots = [0; SLOTS];
     let reset = machine::reset(&mut slots, image.as_slice(), rom);
     set_user(&mut slots, asked);
-    tell_asked(rt, n, asked, &slots, rom)?;
-
+    // What is lent comes first: where there is no memory for it nothing is told.
     let mut journal = vec![in rt.alloc(); 0; JOURNAL]?;
     let mut now = State {
         slots,
         memory: Vec::from_slice(rt.alloc(), image.as_slice())?,
     };
+    tell_asked(rt, n, asked, &slots, rom)?;
+
     let before = State {
         slots,
         memory: image,
