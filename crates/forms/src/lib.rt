@@ -198,14 +198,14 @@ fn write_back(form: Form, journal: &[u8], target: &mut [u8], total: usize)
     requires { MeasuredIs form journal.now (length target.old) (Ok total) }
     ensures { target.new ≡ (convert form journal.now target.old).target }
 {
-    // The way below ends where no record is read: of an empty journal that would be all its cost.
-    if journal.is_empty() {
-        return;
-    }
     let mut out = [0u8; LONGEST_RECORD_TWO];
     let mut e = journal.len();
     let mut p = total;
-    while let Some(r) = convert_record(form, journal, e, &mut out) {
+    // Not while let: that would look for one record more at place 0, which is most of what a short journal costs.
+    while 0 < e {
+        let Some(r) = convert_record(form, journal, e, &mut out) else {
+            return;
+        };
         p -= r.length;
         target[p..p + r.length].copy_from_slice(&out[..r.length]);
         e = r.start;

@@ -28,9 +28,11 @@ struct Vectors {
     rom: Vec<u8>,
 }
 
-// Lengthens a buffer that has fewer than n bytes.
+// Lengthens a buffer that has fewer than n bytes. What it held goes first: room that grows is doubled, and held twice while it moves.
 fn lengthen(buffer: &mut Vec<u8>, n: usize) -> Result<(), AllocError> {
     if buffer.len() < n {
+        buffer.clear();
+        buffer.shrink_to_fit();
         buffer.resize(n, 0)?;
     }
     Ok(())

@@ -7,11 +7,11 @@ use Rattle.forms.specs.Forms.{other, journal_in}
 use Rattle.forms.proofs.ConvertLaws.{Passed}
 use Rattle.forms.proofs.write_back.Given as goal
 
-abbrev pub invariant-loop-r : goal.invariant-loop-r
-invariant-loop-r l =
+abbrev pub invariant-loop-e : goal.invariant-loop-e
+invariant-loop-e l =
     (acc : List Row) × Passed l.form l.journal l.e acc
     × (l.p + length (journal_in (other l.form) acc) ≡ l.total)
     × (l.target ≡ written l.fn.target l.p (journal_in (other l.form) acc))
 
-abbrev pub decreases-loop-r : goal.decreases-loop-r
-decreases-loop-r l = l.e
+abbrev pub decreases-loop-e : goal.decreases-loop-e
+decreases-loop-e l = l.e
