@@ -66,10 +66,12 @@ pub fn read_at_most<R: AllocGlobal>(
 ) -> io::Result<Option<Vec<u8>>>
     ensures { IfOk result (λ read. IfSome read (λ bytes. vec_len bytes ≤ most)) }
 {
-    // All the room at once: room that grows is doubled, and would end a third above the longest input of post.
+    // All the room at once, and what is not needed given back: room that grows is doubled, and would end a third above the longest input of
+    // post.
     let limit = most.saturating_add(1);
     let mut bytes = Vec::with_capacity(rt.alloc(), limit)?;
     input.by_ref().take(limit as u64).read_to_end(&mut bytes)?;
+    bytes.shrink_to_fit();
     if bytes.len() <= most {
         Ok(Some(bytes))
     } else {
